@@ -13,13 +13,14 @@ use Rattle.model_recursion.specs.Invariant.{rank, members_of, HasRead, StandsAt,
 use Rattle.model_recursion.specs.Program.{namer_of, in_phase, first_survey, surveyed, read_next, cell_at, Phase, phase_of}
 use Rattle.model_recursion.specs.Machine.{Words, with_word}
 use Rattle.model_recursion.specs.declared.namer.Survey.{Survey}
+use Rattle.model_recursion.specs.declared.namer.Doing.TheVariants.{Reads}
 use Rattle.model_recursion.specs.Program.Phase.{Entering, Collecting}
 use Rattle.model_recursion.specs.declared.namer.Namer.{Namer}
 use Rattle.model_recursion.proofs.Levelling.{in_tells, in_is}
 use Rattle.model_recursion.proofs.Putting.{put, put_own, put_level, put_person, put_cases}
 use Rattle.model_recursion.proofs.cited.Facts.{AreSeats, are_seats, some_ids, nobody_at_0, split_for}
 use Rattle.model_recursion.proofs.OneWord.{reads_on, counts_all}
-use Rattle.model_recursion.proofs.Moved.{moved, grows}
+use Rattle.model_recursion.proofs.Moved.{stands_on, moved, grows}
 
 module _ (m : ℕ) (ids : ℕ → ℕ) (word : Words) (who : ℕ → Option Namer) (g : IsConsistent m ids word who) (p : ℕ) where
   -- who stays is another, or stays by the same
@@ -99,20 +100,8 @@ module _ (m : ℕ) (ids : ℕ → ℕ) (word : Words) (who : ℕ → Option Name
       -- a read that is not the last
       pub gone_on : c.at < m → IsConsistent m ids word (set_at who p (Some (in_phase u (Collecting (read_next after)))))
       gone_on l = replaced (in_phase u (Collecting (read_next after)))
-          (record {
-            own = st.own;
-            some = st.some;
-            few = st.few;
-            most = st.most;
-            id_is = st.id_is;
-            some_id = st.some_id;
-            from = st.from;
-            to = st.to;
-            lower = st.lower;
-            came = st.came;
-            top = st.top;
-            at = (reading.0, reading.1, subst (λ (i : ℕ). HasRead m ids (members_of g.rows u.level u.first) i (read_next after)) (sym st.own) (reads_on m ids (members_of g.rows u.level u.first) p u c read g.few st.few st.own st.id_is st.some_id inside there_some (word u.level u.first c.at) word_is l));
-          })
+          (stands_on m ids g.rows g.rows p u Reads (read_next after) u.name st (λ y _. refl)
+          (reading.0, reading.1, subst (λ (i : ℕ). HasRead m ids (members_of g.rows u.level u.first) i (read_next after)) (sym st.own) (reads_on m ids (members_of g.rows u.level u.first) p u c read g.few st.few st.own st.id_is st.some_id inside there_some (word u.level u.first c.at) word_is l)))
           (λ k f w. stays_after (in_phase u (Collecting (read_next after))) (suc k) f w (λ e. elim w.so [
             | inl full ↦ inl full
             | inr r ↦
@@ -218,31 +207,18 @@ module _ (m : ℕ) (ids : ℕ → ℕ) (word : Words) (who : ℕ → Option Name
 
       pub entered : IsConsistent m ids written (set_at who p (Some next))
       entered = moved m ids word who g p u is s next written refl refl same words_now
-          (record {
-            own = st.own;
-            some = st.some;
-            few = st.few;
-            most = st.most;
-            id_is = st.id_is;
-            some_id = st.some_id;
-            from = st.from;
-            to = st.to;
-            lower = λ y l. ap (λ (t : Spot). t.fate) (put_level g.rows u.level p s y p (λ e. omega arith)) ∙ st.lower y l;
-            came = λ l. subst (λ (t : Spot). CameFrom u.level t (record { fate = Reading; first = u.first })) (sym (put_level g.rows u.level p s (suc u.level) p (λ e. omega arith))) (st.came l);
-            top = st.top;
-            at = (
-              ap (λ (t : Spot). t.fate) (put_own g.rows u.level p s),
-              ap (λ (t : Spot). t.first) (put_own g.rows u.level p s),
-              record {
-                from = omega arith;
-                to = (let a = st.some in let b = st.few in omega arith);
-                low = omega arith;
-                under = λ _. omega arith;
-                over = λ h. absurd (cc);
-                own = λ l. absurd (let a = st.some in let b = st.own in omega arith);
-              },
-            );
-          })
+          (stands_on m ids g.rows now p u Reads first_survey u.name st (λ y n. put_level g.rows u.level p s y p n) (
+            ap (λ (t : Spot). t.fate) (put_own g.rows u.level p s),
+            ap (λ (t : Spot). t.first) (put_own g.rows u.level p s),
+            record {
+              from = omega arith;
+              to = (let a = st.some in let b = st.few in omega arith);
+              low = omega arith;
+              under = λ _. omega arith;
+              over = λ h. absurd (cc);
+              own = λ l. absurd (let a = st.some in let b = st.own in omega arith);
+            },
+          ))
           (λ h. absurd (cc))
           (λ h. absurd (cc))
           (λ h. absurd (cc))

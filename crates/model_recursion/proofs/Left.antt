@@ -14,6 +14,7 @@ use Rattle.model_recursion.specs.Invariant.{rank, is_up_to, members_of, HasGreat
 use Rattle.model_recursion.specs.Program.{in_phase, came_to, turn_of, last_of, decided, surveyed, is_open, phase_of}
 use Rattle.model_recursion.specs.Machine.{Words}
 use Rattle.model_recursion.specs.declared.namer.Survey.{Survey}
+use Rattle.model_recursion.specs.declared.namer.Doing.TheVariants.{Rests}
 use Rattle.model_recursion.specs.Program.Phase.{Collecting, Over}
 use Rattle.model_recursion.specs.declared.namer.Namer.{Namer}
 use Rattle.model_recursion.proofs.Counting.{count_some, count_rest}
@@ -21,7 +22,7 @@ use Rattle.model_recursion.proofs.Levelling.{in_tells}
 use Rattle.model_recursion.proofs.Putting.{put, put_own, put_level, put_cases}
 use Rattle.model_recursion.proofs.cited.Facts.{few_at, names_at}
 use Rattle.model_recursion.proofs.OneWord.{KnowsOf, knows, counts_all}
-use Rattle.model_recursion.proofs.Moved.{moved, stays_still}
+use Rattle.model_recursion.proofs.Moved.{stands_on, moved, stays_still}
 use Rattle.model_recursion.proofs.Entered.{reading, read, inside, there_some, word_is, after}
 use Rattle.model_recursion.proofs.Ranging.{turn_is, last_is}
 
@@ -228,24 +229,11 @@ module _ (m : ℕ) (ids : ℕ → ℕ) (word : Words) (who : ℕ → Option Name
               (λ _. full) (λ _. refl) (λ _. g_is) (λ h. absurd (cc)))
           | inr g_is ↦
               rw (not_less, g_is) (left Named refl (in_phase u (Over (last_of u.level u.first)))
-              (record {
-                own = st.own;
-                some = st.some;
-                few = st.few;
-                most = st.most;
-                id_is = st.id_is;
-                some_id = st.some_id;
-                from = st.from;
-                to = st.to;
-                lower = lower_still Named;
-                came = λ b. subst (λ (t : Spot). CameFrom u.level t (record { fate = Reading; first = u.first })) (sym (put_level g.rows u.level p (record { fate = Named; first = u.first }) (suc u.level) p (λ e. omega arith))) (st.came b);
-                top = st.top;
-                at = (
-                  ap (λ (t : Spot). t.fate) (put_own g.rows u.level p (record { fate = Named; first = u.first })),
-                  ap (λ (t : Spot). t.first) (put_own g.rows u.level p (record { fate = Named; first = u.first })),
-                  λ j e. subst (λ (y : ℕ). IsLast j u.first (last_of y u.first)) (sym e) (last_is j u.first (count_to there (suc m)) m g.few (omega arith) in_reach),
-                );
-              })
+              (stands_on m ids g.rows (put g.rows u.level p (record { fate = Named; first = u.first })) p u Rests u.survey (last_of u.level u.first) st (λ y n. put_level g.rows u.level p (record { fate = Named; first = u.first }) y p n) (
+                ap (λ (t : Spot). t.fate) (put_own g.rows u.level p (record { fate = Named; first = u.first })),
+                ap (λ (t : Spot). t.first) (put_own g.rows u.level p (record { fate = Named; first = u.first })),
+                λ j e. subst (λ (y : ℕ). IsLast j u.first (last_of y u.first)) (sym e) (last_is j u.first (count_to there (suc m)) m g.few (omega arith) in_reach),
+              ))
               (λ _. full) (λ _. refl) (λ h. absurd (cc)) (λ _. (g_is, full)))
         ]
   ]

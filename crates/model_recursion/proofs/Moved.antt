@@ -14,6 +14,7 @@ use Rattle.model_recursion.specs.Ranges.{IsTurn}
 use Rattle.model_recursion.specs.Levels.{Level, CameFrom}
 use Rattle.model_recursion.specs.Invariant.{rank, is_up_to, members_of, HasGreater, HasRead, StandsAt, Stands, Stays, IsConsistent}
 use Rattle.model_recursion.specs.declared.namer.Survey.{Survey}
+use Rattle.model_recursion.specs.declared.namer.Doing.{Doing}
 use Rattle.model_recursion.specs.Program.Phase.{Entering, Collecting, Over}
 use Rattle.model_recursion.specs.declared.namer.Namer.{Namer}
 use Rattle.model_recursion.proofs.Levelling.{in_tells}
@@ -41,6 +42,25 @@ pub stands_more : (m : ℕ) (ids : ℕ → ℕ) (there more : ℕ → Bool) (s :
 stands_more m ids there more s u Entering grows h = h
 stands_more m ids there more s u (Collecting c) grows h = (h.0, h.1, read_more m ids there more u.seat c grows h.2)
 stands_more m ids there more s u (Over name) grows h = h
+
+-- a seat stands on at its level, whatever it does there next, where its spots at the other levels are as they were
+pub stands_on : (m : ℕ) (ids : ℕ → ℕ) (rows rows' : ℕ → Level) (p : ℕ) (u : Namer) (doing : Doing) (survey : Survey) (name : ℕ) → Stands m ids rows p u → ((y : ℕ) → y ≢ u.level → rows' y p ≡ rows y p)
+    → StandsAt m ids (members_of rows' u.level u.first) (rows' u.level p) (record u { doing = doing; survey = survey; name = name }) (phase_of (record u { doing = doing; survey = survey; name = name }))
+    → Stands m ids rows' p (record u { doing = doing; survey = survey; name = name })
+stands_on m ids rows rows' p u doing survey name st same at = record {
+  own = st.own;
+  some = st.some;
+  few = st.few;
+  most = st.most;
+  id_is = st.id_is;
+  some_id = st.some_id;
+  from = st.from;
+  to = st.to;
+  lower = λ y l. ap (λ (t : Spot). t.fate) (same y (λ e. omega arith)) ∙ st.lower y l;
+  came = λ l. subst (λ (t : Spot). CameFrom u.level t (record { fate = Reading; first = u.first })) (sym (same (suc u.level) (λ e. omega arith))) (st.came l);
+  top = st.top;
+  at = at;
+}
 
 module _ (m : ℕ) (ids : ℕ → ℕ) (word : ℕ → ℕ → ℕ → ℕ) (who : ℕ → Option Namer) (g : IsConsistent m ids word who) (p : ℕ) (u : Namer) (is : who p ≡ Some u) (s : Spot) (next : Namer) (word' : ℕ → ℕ → ℕ → ℕ) where
   abbrev x : ℕ
@@ -178,21 +198,8 @@ module _ (m : ℕ) (ids : ℕ → ℕ) (word : ℕ → ℕ → ℕ → ℕ) (who
           (λ n h.
           let old = g.stands q v h in
           let spot : (y : ℕ) → rows' y q ≡ g.rows y q = (λ y. put_person g.rows u.level p s y q n) in
-          record {
-            own = old.own;
-            some = old.some;
-            few = old.few;
-            most = old.most;
-            id_is = old.id_is;
-            some_id = old.some_id;
-            from = old.from;
-            to = old.to;
-            lower = λ y l. ap (λ (t : Spot). t.fate) (spot y) ∙ old.lower y l;
-            came = λ l. subst (λ (t : Spot). CameFrom v.level t (record { fate = Reading; first = v.first })) (sym (spot (suc v.level))) (old.came l);
-            top = old.top;
-            at = stands_more m ids (members_of g.rows v.level v.first) (members_of rows' v.level v.first) (rows' v.level q) v (phase_of v) (grows v.level v.first)
-                (subst (λ (t : Spot). StandsAt m ids (members_of g.rows v.level v.first) t v (phase_of v)) (sym (spot v.level)) old.at);
-          })
+          stands_on m ids g.rows rows' q v v.doing v.survey v.name old (λ y _. spot y) (stands_more m ids (members_of g.rows v.level v.first) (members_of rows' v.level v.first) (rows' v.level q) v (phase_of v) (grows v.level v.first)
+          (subst (λ (t : Spot). StandsAt m ids (members_of g.rows v.level v.first) t v (phase_of v)) (sym (spot v.level)) old.at)))
 
       pub moved : IsConsistent m ids word' who'
       moved = record {
