@@ -1,10 +1,10 @@
 -- what the calls of a tree's world answer and leave, by what the participant has to do
-use Rattle.std.proofs.Common.{◌≡◌, ◌≢◌, ℕ, true, false, cond, List, Option, Some, None, Result, Ok, Err, OnErr, refl, sym, ap, ◌∙◌, option_map}
+use Rattle.std.proofs.Common.{◌≡◌, ◌≢◌, ℕ, Bool, true, false, cond, List, Option, Some, None, Result, Ok, Err, OnErr, refl, sym, ap, subst, ◌∙◌, option_map}
 use Rattle.std.proofs.lemmas.Option.{same_Some, none-some}
 use Rattle.model_splitter.proofs.tree_lemmas.WorldCommon.{Refusal, NotBegun, AlreadyBegun, Finished, NoMemory, Note, Participant, participant_of, program_of, Client, Task, Placing, Nothing, Storing, Collecting, NodeMap, TreeWorldState, tree_steps, may_refuse, client_steps, access_for, is_placing, is_collecting, place_reported, storing, collecting, done_unless, after_set}
 use Rattle.model_splitter.specs.tree.Client.{view_reported, is_idle}
 use Rattle.model_splitter.specs.declared.tree.client.TreeReply.{TreeReply}
-use Rattle.model_splitter.specs.tree.TreeWorld.{place_answer, place_answer_by, after_placing, view_answer, view_answer_by, after_collecting, asking_refusal, after_store, after_collect_begin}
+use Rattle.model_splitter.specs.tree.TreeWorld.{place_answer, place_answer_by, after_placing, view_answer, view_answer_by, after_collecting, asking_refusal, refusal_unless, after_store, after_collect_begin}
 use Rattle.model_splitter.proofs.tree_lemmas.StoreLemmas.{store_goes_well}
 use Rattle.model_steps.specs.Calls.{reply_of}
 use Rattle.model_steps.specs.World.{step_answer, after_step, may_refuse_by, may_refuse_step, set_answer, set_answer_by}
@@ -18,6 +18,14 @@ read_fits m c Nothing h = absurd (cc)
 read_fits m c (Storing value) h = absurd (cc)
 read_fits m c (Collecting collect) h = refl
 
+-- who is refused a call that takes a certain task is nobody, or has another task
+refused_by : (fits : Task → Bool) (wrong why : Refusal) (P : Refusal → Type 0) (o : Option Client) → refusal_unless fits wrong o ≡ Some why →
+    (o ≡ None → P NotBegun) → ((c : Client) → o ≡ Some c → fits c.task ≡ false → P wrong) → P why
+refused_by fits wrong why P None e nobody other = subst P (same_Some NotBegun why e) (nobody refl)
+refused_by fits wrong why P (Some c) e nobody other =
+    elim (fits c.task) as (λ b. fits c.task ≡ b → cond b None (Some wrong) ≡ Some why → P why)
+    [ true ↦ λ _ h. absurd (cc) | false ↦ λ other_task h. subst P (same_Some wrong why h) (other c refl other_task) ] refl e
+
 module _ (w : TreeWorldState) (id : ℕ) where
   -- a step on the way to a place
   pub record PlaceStep (new : TreeWorldState) (reply : Result (Option ℕ) Refusal) : Type 0 where
@@ -30,17 +38,27 @@ module _ (w : TreeWorldState) (id : ℕ) where
     pub state : new ≡ after_collecting tree_steps w id
 
   -- of nobody, and of one who has something else to do
-  pub no_way_of_nobody : program_of id w.participants ≡ None → PlaceStep w (Err NotBegun)
+  no_way_of_nobody : program_of id w.participants ≡ None → PlaceStep w (Err NotBegun)
   no_way_of_nobody e = record { answer = λ goes. rw e refl; state = λ goes. rw e refl }
 
-  pub no_way_of_other : (c : Client) → program_of id w.participants ≡ Some c → is_placing c.task ≡ false → PlaceStep w (Err Finished)
+  no_way_of_other : (c : Client) → program_of id w.participants ≡ Some c → is_placing c.task ≡ false → PlaceStep w (Err Finished)
   no_way_of_other c e busy = record { answer = λ goes. rw (e, busy) refl; state = λ goes. rw (e, busy) refl }
 
-  pub no_collect_of_nobody : program_of id w.participants ≡ None → CollectStep w (Err NotBegun)
+  no_collect_of_nobody : program_of id w.participants ≡ None → CollectStep w (Err NotBegun)
   no_collect_of_nobody e = record { answer = rw e refl; state = rw e refl }
 
-  pub no_collect_of_other : (c : Client) → program_of id w.participants ≡ Some c → is_collecting c.task ≡ false → CollectStep w (Err Finished)
+  no_collect_of_other : (c : Client) → program_of id w.participants ≡ Some c → is_collecting c.task ≡ false → CollectStep w (Err Finished)
   no_collect_of_other c e busy = record { answer = rw (e, busy) refl; state = rw (e, busy) refl }
+
+  -- of one who is refused for this reason
+  pub no_way : (why : Refusal) → refusal_unless is_placing Finished (program_of id w.participants) ≡ Some why → PlaceStep w (Err why)
+  no_way why e = refused_by is_placing Finished why (λ r. PlaceStep w (Err r)) (program_of id w.participants) e no_way_of_nobody no_way_of_other
+
+  pub not_for_memory : (why : Refusal) → refusal_unless is_placing Finished (program_of id w.participants) ≡ Some why → why ≢ NoMemory
+  not_for_memory why e = refused_by is_placing Finished why (λ r. r ≢ NoMemory) (program_of id w.participants) e (λ _ h. absurd (cc)) (λ c _ _ h. absurd (cc))
+
+  pub no_collect : (why : Refusal) → refusal_unless is_collecting Finished (program_of id w.participants) ≡ Some why → CollectStep w (Err why)
+  no_collect why e = refused_by is_collecting Finished why (λ r. CollectStep w (Err r)) (program_of id w.participants) e no_collect_of_nobody no_collect_of_other
 
   collect_fits : (o : Option (Participant Client)) (c : Client) → option_map (λ p. p.program) o ≡ Some c → is_collecting c.task ≡ true → may_refuse_by client_steps tree_steps w.memory o ≡ false
   collect_fits None c e on = refl
@@ -111,17 +129,24 @@ module _ (w : TreeWorldState) (id : ℕ) where
     pub state : new ≡ after_collect_begin w id
 
   -- of nobody, of one who has something to do, and of one who has nothing
-  pub no_store_of_nobody : (value : ℕ) → program_of id w.participants ≡ None → StoreCall value w (Err NotBegun)
+  no_store_of_nobody : (value : ℕ) → program_of id w.participants ≡ None → StoreCall value w (Err NotBegun)
   no_store_of_nobody value e = record { answer = rw e refl; state = rw e refl; refused = refl }
 
-  pub no_store_of_busy : (value : ℕ) (c : Client) → program_of id w.participants ≡ Some c → is_idle c.task ≡ false → StoreCall value w (Err AlreadyBegun)
+  no_store_of_busy : (value : ℕ) (c : Client) → program_of id w.participants ≡ Some c → is_idle c.task ≡ false → StoreCall value w (Err AlreadyBegun)
   no_store_of_busy value c e busy = record { answer = rw (e, busy) refl; state = rw (e, busy) refl; refused = refl }
 
-  pub no_begin_of_nobody : program_of id w.participants ≡ None → CollectCall w (Err NotBegun)
+  no_begin_of_nobody : program_of id w.participants ≡ None → CollectCall w (Err NotBegun)
   no_begin_of_nobody e = record { answer = rw e refl; state = rw e refl }
 
-  pub no_begin_of_busy : (c : Client) → program_of id w.participants ≡ Some c → is_idle c.task ≡ false → CollectCall w (Err AlreadyBegun)
+  no_begin_of_busy : (c : Client) → program_of id w.participants ≡ Some c → is_idle c.task ≡ false → CollectCall w (Err AlreadyBegun)
   no_begin_of_busy c e busy = record { answer = rw (e, busy) refl; state = rw (e, busy) refl }
+
+  -- of one who is refused for this reason
+  pub no_store : (value : ℕ) (why : Refusal) → asking_refusal w id ≡ Some why → StoreCall value w (Err why)
+  no_store value why e = refused_by is_idle AlreadyBegun why (λ r. StoreCall value w (Err r)) (program_of id w.participants) e (no_store_of_nobody value) (no_store_of_busy value)
+
+  pub no_begin : (why : Refusal) → asking_refusal w id ≡ Some why → CollectCall w (Err why)
+  no_begin why e = refused_by is_idle AlreadyBegun why (λ r. CollectCall w (Err r)) (program_of id w.participants) e no_begin_of_nobody no_begin_of_busy
 
   pub begin_call : (c : Client) → program_of id w.participants ≡ Some c → is_idle c.task ≡ true → (new : TreeWorldState) (reply : Result (Unit {0}) Refusal) → reply ≡ set_answer w id → new ≡ after_set w id (collecting c) → CollectCall new reply
   begin_call c e idle new reply is becomes = record { answer = is ∙ is_set c (participant_of id w.participants) e ∙ rw (e, idle) refl; state = becomes ∙ rw (e, idle) refl }

@@ -11,6 +11,7 @@ use Rattle.model_splitter.specs.declared.tree.register.TreeRegister.{TreeRegiste
 use Rattle.model_splitter.specs.declared.tree.register.TreeRegister.TheVariants.{Contents}
 use Rattle.model_splitter.specs.declared.tree.register.TreeValue.{TreeValue}
 use Rattle.model_splitter.specs.declared.tree.client.Client.{Client}
+use Rattle.model_splitter.specs.declared.tree.client.Task.{Task}
 use Rattle.model_splitter.specs.tree.Walk.{place_of}
 use Rattle.model_splitter.specs.tree.Client.{client_of, client_steps, is_placing, is_idle, is_collecting, storing, collecting, place_reported, view_reported}
 
@@ -18,14 +19,15 @@ use Rattle.model_splitter.specs.tree.Client.{client_of, client_steps, is_placing
 abbrev pub TreeState : Type 0 → Type 0
 TreeState S = WorldState S Client
 
--- why `store` and `collect_begin` are refused
-abbrev pub asking_refusal_by : Option Client → Option Refusal
-asking_refusal_by None = Some NotBegun
-asking_refusal_by (Some c) = if is_idle c.task then None else Some AlreadyBegun
+-- why a call is refused that only a participant with such a task may make
+abbrev pub refusal_unless : (Task → Bool) → Refusal → Option Client → Option Refusal
+refusal_unless fits wrong None = Some NotBegun
+refusal_unless fits wrong (Some c) = if fits c.task then None else Some wrong
 
 module _ {S : Type 0} where
+  -- why `store` and `collect_begin` are refused
   abbrev pub asking_refusal : TreeState S → ℕ → Option Refusal
-  asking_refusal w id = asking_refusal_by (program_of id w.participants)
+  asking_refusal w id = refusal_unless is_idle AlreadyBegun (program_of id w.participants)
 
   abbrev pub after_tree_begin : TreeState S → ℕ → TreeState S
   after_tree_begin w id = after_begin w id (client_of id)

@@ -1,11 +1,11 @@
 //! A world whose participants walk down one tree, store values at their places, and collect them.
 
-ghost use Rattle.std.specs.Prelude.{◌≡◌, ◌≢◌, [], IfOk, IfErr, IsOk, Err, OnErr, true, ◌≤◌, ◌<◌, ◌⊎◌, ◌↔◌, option_and_then};
+ghost use Rattle.std.specs.Prelude.{◌≡◌, ◌≢◌, [], IfOk, IfErr, IsOk, Err, OnErr, Some, true, ◌≤◌, ◌<◌, ◌⊎◌, ◌↔◌, option_and_then};
 ghost use Rattle.model_splitter.specs.tree.WorldLaws.{AnswersPlaceAlike, StaysAlikeOnWay, StaysAlikeCollecting};
-ghost use Rattle.model_splitter.specs.tree.Client.{client_steps};
+ghost use Rattle.model_splitter.specs.tree.Client.{client_steps, is_collecting, is_idle, is_placing};
 ghost use Rattle.model_splitter.specs.tree.TreeCalls.TreeCall.{Began, Stepped, Stored, CollectBegan, CollectStepped};
 ghost use Rattle.model_splitter.specs.tree.TreeSteps.{tree_steps, empty_tree};
-ghost use Rattle.model_splitter.specs.tree.TreeWorld.{after_tree_begin, asking_refusal, place_answer, after_placing, may_lack_memory, after_store, after_collect_begin, view_answer, after_collecting, ChangesOnlyStore};
+ghost use Rattle.model_splitter.specs.tree.TreeWorld.{after_tree_begin, asking_refusal, refusal_unless, place_answer, after_placing, may_lack_memory, after_store, after_collect_begin, view_answer, after_collecting, ChangesOnlyStore};
 ghost use Rattle.model_splitter.specs.tree.PlacesLaw.{way_calls};
 ghost use Rattle.model_splitter.specs.tree.Machine.{HasLawfulNodes, TreeWorldState, fresh_over, tree};
 ghost use Rattle.model_steps.specs.Machine.{Reaches, OnEveryHistory, SatisfiesSpec, Extends, RefusesWhereDue};
@@ -121,15 +121,22 @@ impl<A: Allocator + Clone> TreeWorld<A> {
         ensures alike { result ≢ Err Refusal.NoMemory → AnswersPlaceAlike self.old id result }
         ensures stands_alike { result ≢ Err Refusal.NoMemory → StaysAlikeOnWay self.old self.new id }
     {
-        let Some(client) = self.world.program(id) else {
-            return Err(Refusal::NotBegun);
-        };
-        if !client.is_placing() {
-            return Err(Refusal::Finished);
-        }
+        self.placing_client(id)?;
         match self.world.step(id) {
             Ok(note) => Ok(place_reported(&note)),
             Err(refusal) => Err(refusal),
+        }
+    }
+
+    /// Returns the client of `id`, which is on its way to its place.
+    fn placing_client(&self, id: u64) -> Result<Client, Refusal>
+        ensures fits { IfOk result (λ c. (program_of id self.now.participants ≡ Some c) × (is_placing c.task ≡ true)) }
+        ensures refused { IfErr result (λ why. refusal_unless is_placing Refusal.Finished (program_of id self.now.participants) ≡ Some why) }
+    {
+        match self.world.program(id) {
+            Some(client) if client.is_placing() => Ok(*client),
+            Some(_) => Err(Refusal::Finished),
+            None => Err(Refusal::NotBegun),
         }
     }
 
@@ -155,13 +162,7 @@ impl<A: Allocator + Clone> TreeWorld<A> {
         // Nothing of the world changes except this participant and the segment at its place.
         ensures local { ChangesOnlyStore tree_steps id self.old self.new }
     {
-        let Some(client) = self.world.program(id) else {
-            return Err(Refusal::NotBegun);
-        };
-        if !client.is_idle() {
-            return Err(Refusal::AlreadyBegun);
-        }
-        let client = client.storing(value);
+        let client = self.idle_client(id)?.storing(value);
         // This succeeds, since the identity has begun.
         let _ = self.world.set(id, client);
         match self.world.step(id) {
@@ -187,14 +188,32 @@ impl<A: Allocator + Clone> TreeWorld<A> {
         ensures law { SatisfiesSpec tree self.new }
         ensures due { RefusesWhereDue tree self.new }
     {
-        let Some(client) = self.world.program(id) else {
-            return Err(Refusal::NotBegun);
-        };
-        if !client.is_idle() {
-            return Err(Refusal::AlreadyBegun);
-        }
-        let client = client.collecting();
+        let client = self.idle_client(id)?.collecting();
         self.world.set(id, client)
+    }
+
+    /// Returns the client of `id`, which has its place and nothing to do.
+    fn idle_client(&self, id: u64) -> Result<Client, Refusal>
+        ensures fits { IfOk result (λ c. (program_of id self.now.participants ≡ Some c) × (is_idle c.task ≡ true)) }
+        ensures refused { IfErr result (λ why. refusal_unless is_idle Refusal.AlreadyBegun (program_of id self.now.participants) ≡ Some why) }
+    {
+        match self.world.program(id) {
+            Some(client) if client.is_idle() => Ok(*client),
+            Some(_) => Err(Refusal::AlreadyBegun),
+            None => Err(Refusal::NotBegun),
+        }
+    }
+
+    /// Returns the client of `id`, a collect of which is under way.
+    fn collecting_client(&self, id: u64) -> Result<Client, Refusal>
+        ensures fits { IfOk result (λ c. (program_of id self.now.participants ≡ Some c) × (is_collecting c.task ≡ true)) }
+        ensures refused { IfErr result (λ why. refusal_unless is_collecting Refusal.Finished (program_of id self.now.participants) ≡ Some why) }
+    {
+        match self.world.program(id) {
+            Some(client) if client.is_collecting() => Ok(*client),
+            Some(_) => Err(Refusal::Finished),
+            None => Err(Refusal::NotBegun),
+        }
     }
 
     /// Makes one step of the collect of `id`: one read. Returns the view if the collect ends with it.
@@ -224,12 +243,7 @@ impl<A: Allocator + Clone> TreeWorld<A> {
         ensures alike { (other : TreeWorldState) → Indistinguishable client_steps tree_steps id self.old other → result ≡ view_answer tree_steps other id }
         ensures stands_alike { StaysAlikeCollecting self.old self.new id }
     {
-        let Some(client) = self.world.program(id) else {
-            return Err(Refusal::NotBegun);
-        };
-        if !client.is_collecting() {
-            return Err(Refusal::Finished);
-        }
+        self.collecting_client(id)?;
         match self.world.step(id) {
             Ok(note) => Ok(view_reported(&note)),
             Err(refusal) => Err(refusal),

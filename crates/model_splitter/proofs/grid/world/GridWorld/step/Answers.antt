@@ -1,4 +1,4 @@
-use Rattle.std.proofs.Common.{◌≡◌, ◌≢◌, ◌∙◌, ap, sym, Err}
+use Rattle.std.proofs.Common.{◌≢◌, ◌∙◌, ap, sym, Err}
 use Rattle.std.proofs.lemmas.Bool.{false≢true}
 use Rattle.model_steps.specs.Calls.{outcome_in, reply_of}
 use Rattle.model_steps.specs.declared.refusal.Refusal.TheVariants.{NoMemory}
@@ -10,17 +10,14 @@ use Rattle.model_splitter.proofs.grid.world.GridWorld.step.Goals.{After-map}
 sure : (g : _) (c : After-map g) → c.step.result ≢ Err NoMemory
 sure g c = λ e. false≢true (sym (grid_fits c.self.inside.world c.args.id) ∙ c.step.ensures.no_memory e)
 
-mapped : (g : _) (c : After-map g) → c.map.result ≡ reply_of outcome_in c.step.result
-mapped g c = shows_what_is_mapped c.step.result c.map.result c.map.ensures.cases
-
 pub returns-clause-answer : goal.returns-clause-answer
-returns-clause-answer g c = mapped g c ∙ ap (reply_of outcome_in) (rw c.self.view_is at c.step.ensures.answer (sure g c))
+returns-clause-answer g c = shows_what_is_mapped c.step.result c.map.result c.map.ensures.cases ∙ ap (reply_of outcome_in) (rw c.self.view_is at c.step.ensures.answer (sure g c))
 
 pub returns-clause-state : goal.returns-clause-state
 returns-clause-state g c = rw c.self.view_is at c.step.ensures.after (sure g c)
 
 pub returns-clause-alike : goal.returns-clause-alike
-returns-clause-alike g c = λ other same. mapped g c ∙ ap (reply_of outcome_in) ((rw c.self.view_is at c.step.ensures.alike (sure g c)) other same)
+returns-clause-alike g c = λ other same. shows_what_is_mapped c.step.result c.map.result c.map.ensures.cases ∙ ap (reply_of outcome_in) ((rw c.self.view_is at c.step.ensures.alike (sure g c)) other same)
 
 pub returns-clause-stands_alike : goal.returns-clause-stands_alike
 returns-clause-stands_alike g c = grid_stays c.args.self.now c.step.new.self c.args.id (returns-clause-state g c)

@@ -1,18 +1,12 @@
-use Rattle.std.proofs.Common.{◌≡◌, Some, None, Ok, refl, sym, ap, ◌∙◌, option_copied}
-use Rattle.model_splitter.proofs.tree_lemmas.WorldCommon.{program_of, client_steps, tree_steps}
+use Rattle.std.proofs.Common.{rules, ◌≡◌, ◌≢◌, Ok, Err, refl, sym, ap, ◌∙◌}
+use Rattle.model_splitter.proofs.tree_lemmas.WorldCommon.{NoMemory, client_steps, tree_steps}
 use Rattle.model_splitter.specs.tree.Client.{place_reported}
 use Rattle.model_steps.specs.Calls.{reply_of}
 use Rattle.model_steps.proofs.cited.LocalityLemmas.{unchanged_local}
-use Rattle.model_splitter.proofs.tree_lemmas.CallsAsked.{no_way_of_nobody, no_way_of_other, way_step, place_alike, lacked_too, kept_too, refused_too}
+use Rattle.model_splitter.proofs.tree_lemmas.CallsAsked.{no_way, not_for_memory, way_step, place_alike, lacked_too, kept_too, refused_too}
 use Rattle.model_splitter.proofs.tree_lemmas.TreeProved.{tree_law, tree_due, tree_nodes, tree_goes_on, tree_stays}
 use Rattle.model_splitter.proofs.tree.world.TreeWorld.step.Goals as goal
-use Rattle.model_splitter.proofs.tree.world.TreeWorld.step.Goals.{In_default, After-is_placing, Joined-step, in-Ok, in-Err}
-
-nobody : (g : _) (c : In_default g) → program_of c.args.id c.args.self.now.participants ≡ None
-nobody g c = rw (← c.self.view_is) (sym c.program.ensures ∙ ap option_copied c.in_default.is)
-
-the_client : (g : _) (c : After-is_placing g) → program_of c.args.id c.args.self.now.participants ≡ Some c.in-Some.client.now
-the_client g c = rw (← c.self.view_is) (sym c.program.ensures ∙ ap option_copied c.in-Some.is)
+use Rattle.model_splitter.proofs.tree.world.TreeWorld.step.Goals.{Joined-step, in-Ok, in-Err}
 
 said : (g : _) (c : Joined-step g) → c.match-step.result ≡ reply_of place_reported c.step.result
 said g c = elim c.match-step.branch [
@@ -20,45 +14,32 @@ said g c = elim c.match-step.branch [
   | in-Err w ↦ w.result-is ∙ sym (ap (reply_of place_reported) w.in-Err.is)
 ]
 
-pub returns-in_default : goal.returns-in_default
-returns-in_default g c =
-    let h = no_way_of_nobody c.args.self.now c.args.id (nobody g (goal.at.returns-in_default g c).In_default) in
-    record {
+pub returns-in_err-placing_client : goal.returns-in_err-placing_client
+returns-in_err-placing_client g c =
+    let why = c.in_err-placing_client.field-0.0 in
+    let h = no_way c.args.self.now c.args.id why c.in_err-placing_client.ensures.refused in
+    let goes : why ≢ NoMemory = not_for_memory c.args.self.now c.args.id why c.in_err-placing_client.ensures.refused in
+    let is : c.from_residual.result ≡ Err why = search rules in
+    rw is (record {
       answer = h.answer;
       state = h.state;
       unchanged_on_error = refl;
-      no_memory = λ e. absurd (cc);
-      after = tree_goes_on c.args.self.now c.args.self.now c.args.id _ h.state h.answer (λ e. refl) (λ e. absurd (cc));
+      no_memory = λ e. absurd (goes (cc));
+      after = tree_goes_on c.args.self.now c.args.self.now c.args.id _ h.state h.answer (λ e. refl) (λ e. absurd (goes (cc)));
       law = tree_law c.args.self.now;
       due = tree_due c.args.self.now;
       nodes = tree_nodes c.args.self.now;
       local = unchanged_local client_steps tree_steps c.args.id c.args.self.now;
       alike = λ goes other alike. h.answer goes ∙ place_alike c.args.self.now other c.args.id alike;
       stands_alike = λ goes. tree_stays c.args.self.now c.args.self.now c.args.id (h.state goes);
-    }
-
-pub returns-then-not-is_placing : goal.returns-then-not-is_placing
-returns-then-not-is_placing g c =
-    let h = no_way_of_other c.args.self.now c.args.id c.in-Some.client.now (the_client g (goal.at.returns-then-not-is_placing g c).After-is_placing) (sym c.is_placing.ensures ∙ c.if-not-is_placing.true) in
-    record {
-      answer = h.answer;
-      state = h.state;
-      unchanged_on_error = refl;
-      no_memory = λ e. absurd (cc);
-      after = tree_goes_on c.args.self.now c.args.self.now c.args.id _ h.state h.answer (λ e. refl) (λ e. absurd (cc));
-      law = tree_law c.args.self.now;
-      due = tree_due c.args.self.now;
-      nodes = tree_nodes c.args.self.now;
-      local = unchanged_local client_steps tree_steps c.args.id c.args.self.now;
-      alike = λ goes other alike. h.answer goes ∙ place_alike c.args.self.now other c.args.id alike;
-      stands_alike = λ goes. tree_stays c.args.self.now c.args.self.now c.args.id (h.state goes);
-    }
+    })
 
 pub returns : goal.returns
 returns g c =
     let reported = said g (goal.at.returns g c).Joined-step in
-    let h = way_step c.args.self.now c.args.id c.in-Some.client.now (the_client g (goal.at.returns g c).After-is_placing) c.step.new.self c.step.result
-    (rw c.self.view_is at c.step.ensures.answer) (rw c.self.view_is at c.step.ensures.after) (sym c.is_placing.ensures ∙ c.if-not-is_placing.false) c.match-step.result reported in
+    let client = c.in_ok-placing_client.ensures.fits in
+    let h = way_step c.args.self.now c.args.id _ client.0 c.step.new.self c.step.result
+    (rw c.self.view_is at c.step.ensures.answer) (rw c.self.view_is at c.step.ensures.after) client.1 c.match-step.result reported in
     record {
       answer = h.answer;
       state = h.state;
