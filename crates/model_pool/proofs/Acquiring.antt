@@ -1,6 +1,6 @@
 -- one who enters and gets a number by the probes of its bits makes the calls of a stay
-use Rattle.std.proofs.Common.{◌≡◌, ℕ, zero, suc, ◌+◌, List, [], ◌∷◌, ◌++◌, replicate, Some, None, Ok, refl, sym, ap, ◌∙◌, arith, is_some}
-use Rattle.model_pool.proofs.Common.{nat_tests, Registers, after_access, set_at-same, Competitor, Missed, Got, Stay, Seeking, Settled, probe_access, probe_reply, stay_of, with_stay, PoolState, fresh_pool, enter_refusal, Call, Probed, next, IsReply, pool}
+use Rattle.std.proofs.Common.{◌≡◌, ℕ, zero, suc, ◌+◌, List, [], ◌∷◌, ◌++◌, Some, None, Ok, refl, sym, ap, ◌∙◌, arith, is_some}
+use Rattle.model_pool.proofs.Common.{nat_tests, Registers, after_access, set_at-same, Competitor, Stay, Seeking, Settled, probe_access, probe_reply, stay_of, with_stay, PoolState, fresh_pool, enter_refusal, Call, next, IsReply, pool}
 use Rattle.model_pool.specs.PoolState.{PoolStart}
 use Rattle.model_steps.specs.Runs.{Run}
 use Rattle.model_steps.proofs.cited.RunLemmas.{run_more, run_keeps}

@@ -1,7 +1,6 @@
 -- probes, one after the other, until one gives a number: they keep the balance, and are what is sought
-use Rattle.std.proofs.Common.{◌≡◌, ℕ, zero, suc, ◌+◌, ◌≤◌, ◌<◌, ◌⊎◌, true, false, get_or, set, List, Option, Some, None, length, inl, inr, refl, sym, ap, subst, ◌∙◌, arith, is_some}
+use Rattle.std.proofs.Common.{◌≡◌, ℕ, zero, suc, ◌+◌, ◌≤◌, ◌<◌, ◌⊎◌, true, false, get_or, List, Some, length, inl, inr, refl, sym, ap, subst, ◌∙◌, arith, is_some}
 use Rattle.std.proofs.lemmas.Bool.{cases_Bool}
-use Rattle.std.proofs.lemmas.List.{length-set}
 use Rattle.model_steps.specs.Registers.{answer_of}
 use Rattle.model_steps.specs.declared.access.Answer.{Answer}
 use Rattle.model_steps.specs.declared.access.Answer.TheVariants.{Value, WasSet, Done}

@@ -1,8 +1,9 @@
 //! The pool.
 
-ghost use Rattle.std.specs.Prelude.{length, ◌≡◌, ◌≤◌, ◌<◌, ◌⊎◌, [], IfOk, IfErr, IfSome, IfNone, IsOk, OnErr, Err, max, ℕ};
+ghost use Rattle.std.specs.Prelude.{length, ◌≡◌, ◌≤◌, ◌<◌, ◌⊎◌, [], IfOk, IfErr, IfSome, IfNone, IsOk, OnErr, Err, Some, max, ℕ};
 ghost use Rattle.model_pool.specs.Competitors.{stay_of, holder_in, identities};
 ghost use Rattle.model_pool.specs.Invariant.{AreSetBelow, AreSetFrom};
+ghost use Rattle.model_pool.specs.declared.stay.Stay.TheVariants.{Seeking};
 ghost use Rattle.model_pool.specs.Stay.{IsWithin};
 ghost use Rattle.model_pool.specs.PoolState.{PoolState};
 ghost use Rattle.model_pool.specs.Pool.{fresh_pool, enter_refusal, enter_answer, after_enter, probe_refusal, probe_answer, after_probe, number_answer, after_leave, widen_answer, after_widen};
@@ -242,10 +243,19 @@ impl<A: Allocator> Pool<A> {
     pub fn probe_refusal(&self, id: u64) -> Option<Refusal>
         ensures { result ≡ probe_refusal self.now id }
     {
+        self.next_probe(id).err()
+    }
+
+    /// Returns the number of the bit that competitor `id`, which holds no number, probes next.
+    fn next_probe(&self, id: u64) -> Result<u32, Refusal>
+        ensures seeks { IfOk result (λ next. stay_of id self.now.competitors ≡ Some (Seeking next)) }
+        ensures range { IfOk result (λ next. IsWithin self.now.size (Seeking next)) }
+        ensures refused { IfErr result (λ why. probe_refusal self.now id ≡ Some why) }
+    {
         match self.stay_of(id) {
-            None => Some(Refusal::NotCompeting),
-            Some(Stay::Seeking(_)) => None,
-            Some(Stay::Settled(_)) => Some(Refusal::Holding),
+            None => Err(Refusal::NotCompeting),
+            Some(Stay::Seeking(next)) => Ok(next),
+            Some(Stay::Settled(_)) => Err(Refusal::Holding),
         }
     }
 
@@ -278,12 +288,8 @@ impl<A: Allocator> Pool<A> {
         ensures alike { (other : PoolState) → Indistinguishable probe_steps id self.old other → result ≡ probe_answer other id }
         ensures stands_alike { (other : PoolState) → Indistinguishable probe_steps id self.old other → StandAlike id self.new (after_probe other id) }
     {
-        let Some(stay) = self.competitors.stay_of(id) else {
-            return Err(Refusal::NotCompeting);
-        };
-        if let Stay::Settled(_) = stay {
-            return Err(Refusal::Holding);
-        }
+        let next = self.next_probe(id)?;
+        let stay = Stay::Seeking(next);
         let got = self.bits.access(stay.probe_access(self.size)).unwrap();
         let stay = stay.probed(self.size, got);
         self.competitors.put(id, stay);
@@ -312,14 +318,9 @@ impl<A: Allocator> Pool<A> {
         ensures sought { IfOk result (λ n. IsSought self.old id n self.new) }
         ensures shorthand { LeadsByProbes id self.old self.new result }
     {
-        let Some(stay) = self.competitors.stay_of(id) else {
-            return Err(Refusal::NotCompeting);
-        };
-        let Stay::Seeking(next) = stay else {
-            return Err(Refusal::Holding);
-        };
-        let number = seek(&mut self.bits, self.size, next, next.max(self.low));
-        self.low = low_after(self.low, next, number);
+        let first = self.next_probe(id)?;
+        let number = seek(&mut self.bits, self.size, first, first.max(self.low));
+        self.low = low_after(self.low, first, number);
         self.competitors.put(id, Stay::Settled(number));
         Ok(number)
     }

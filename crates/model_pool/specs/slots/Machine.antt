@@ -3,12 +3,11 @@ use Rattle.std.specs.Prelude.{◌≡◌, ◌≤◌, List, length}
 use Rattle.model_steps.specs.Runs.{AnswersAsDue}
 use Rattle.model_steps.specs.Machine.{Machine}
 use Rattle.model_pool.specs.Machine.{next, IsReply}
-use Rattle.model_pool.specs.Calls.{Call}
-use Rattle.model_pool.specs.Calls.Call.{Entered, Probed, Sought, Left, Widened}
-use Rattle.model_pool.specs.PoolState.{PoolStart, PoolState}
+use Rattle.model_pool.specs.Calls.Call.{Widened}
+use Rattle.model_pool.specs.PoolState.{PoolStart}
 use Rattle.model_pool.specs.Pool.{fresh_pool, number_answer}
 use Rattle.model_pool.specs.slots.SlotsState.{SlotsState}
-use Rattle.model_pool.specs.slots.SlotCalls.{SlotCall}
+use Rattle.model_pool.specs.slots.SlotCalls.{SlotCall, OfPoolAlone}
 use Rattle.model_pool.specs.slots.SlotCalls.SlotCall.{Pooled, Stored, Fetched, Extended}
 use Rattle.model_pool.specs.slots.SlotsObject.{SlotAnswers, slots_after, fresh_slots}
 use Rattle.model_pool.specs.slots.Law.{SlotsSpec}
@@ -21,17 +20,9 @@ slots_next s (Stored id value reply) = after_put s id value
 slots_next s (Fetched id reply) = s
 slots_next s (Extended more value reply) = after_extend s more value
 
--- the reply is the one that a call of the pool alone gets. A widening is no such call, since new slots need a value
-abbrev pub IsPoolReply : PoolState → Call → Type 0
-IsPoolReply w (Entered id reply) = IsReply w (Entered id reply)
-IsPoolReply w (Probed id reply) = IsReply w (Probed id reply)
-IsPoolReply w (Sought id reply) = IsReply w (Sought id reply)
-IsPoolReply w (Left id reply) = IsReply w (Left id reply)
-IsPoolReply w (Widened more reply) = ⊥
-
 -- the reply is the one that the call gets
 abbrev pub IsSlotReply : {T : Type 0} → SlotsState T → SlotCall T → Type 0
-IsSlotReply s (Pooled h) = IsPoolReply s.pool h
+IsSlotReply s (Pooled h) = OfPoolAlone (IsReply s.pool) h
 IsSlotReply s (Stored id value reply) = reply ≡ stored_reply (number_answer s.pool id)
 IsSlotReply s (Fetched id reply) = IsFetched s.values (number_answer s.pool id) reply
 IsSlotReply s (Extended more value reply) = IsReply s.pool (Widened more reply)

@@ -2,7 +2,7 @@
 use Rattle.std.specs.Prelude.{ℕ, List, [], ◌∷◌, Result}
 use Rattle.model_steps.specs.declared.refusal.Refusal.{Refusal}
 use Rattle.model_pool.specs.Calls.{Call}
-use Rattle.model_pool.specs.Calls.Call.{Widened}
+use Rattle.model_pool.specs.Calls.Call.{Entered, Probed, Sought, Left, Widened}
 
 -- a call of the pool alone; a value that an identity put or got; or a widening of the pool, with the value of each new
 -- slot
@@ -19,3 +19,11 @@ pool_calls (Pooled h ∷ r) = h ∷ pool_calls r
 pool_calls (Stored p v reply ∷ r) = pool_calls r
 pool_calls (Fetched p reply ∷ r) = pool_calls r
 pool_calls (Extended more v reply ∷ r) = Widened more reply ∷ pool_calls r
+
+-- so of a call of the pool alone. A widening is no such call, since new slots need a value
+abbrev pub OfPoolAlone : (Call → Type 0) → Call → Type 0
+OfPoolAlone P (Entered p reply) = P (Entered p reply)
+OfPoolAlone P (Probed p reply) = P (Probed p reply)
+OfPoolAlone P (Sought p reply) = P (Sought p reply)
+OfPoolAlone P (Left p reply) = P (Left p reply)
+OfPoolAlone P (Widened more reply) = ⊥

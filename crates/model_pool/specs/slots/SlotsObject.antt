@@ -2,10 +2,9 @@
 use Rattle.std.specs.Prelude.{◌≡◌, List}
 use Rattle.model_steps.specs.Runs.{Run}
 use Rattle.model_pool.specs.PoolState.{PoolStart}
-use Rattle.model_pool.specs.Calls.{Call}
-use Rattle.model_pool.specs.Calls.Call.{Entered, Probed, Sought, Left, Widened}
+use Rattle.model_pool.specs.Calls.Call.{Widened}
 use Rattle.model_pool.specs.PoolObject.{PoolObject, fresh_object, Answers, after, number_in}
-use Rattle.model_pool.specs.slots.SlotCalls.{SlotCall}
+use Rattle.model_pool.specs.slots.SlotCalls.{SlotCall, OfPoolAlone}
 use Rattle.model_pool.specs.slots.SlotCalls.SlotCall.{Pooled, Stored, Fetched, Extended}
 use Rattle.model_pool.specs.slots.Slots.{stored_reply, stored_in, IsFetched, extended_in}
 
@@ -18,17 +17,9 @@ pub record SlotsObject (T : Type 0) : Type 0 where
 abbrev pub fresh_slots : {T : Type 0} → PoolStart → List T → SlotsObject T
 fresh_slots start values = record { pool = fresh_object start; values = values }
 
--- the reply is one that the object may give to a call of the pool alone, which a widening is not: new slots need a value
-abbrev pub PoolAnswers : PoolObject → Call → Type 0
-PoolAnswers o (Entered p reply) = Answers o (Entered p reply)
-PoolAnswers o (Probed p reply) = Answers o (Probed p reply)
-PoolAnswers o (Sought p reply) = Answers o (Sought p reply)
-PoolAnswers o (Left p reply) = Answers o (Left p reply)
-PoolAnswers o (Widened more reply) = ⊥
-
 -- the reply is one that the object may give to the call
 abbrev pub SlotAnswers : {T : Type 0} → SlotsObject T → SlotCall T → Type 0
-SlotAnswers o (Pooled h) = PoolAnswers o.pool h
+SlotAnswers o (Pooled h) = OfPoolAlone (Answers o.pool) h
 SlotAnswers o (Stored p value reply) = reply ≡ stored_reply (number_in o.pool p)
 SlotAnswers o (Fetched p reply) = IsFetched o.values (number_in o.pool p) reply
 SlotAnswers o (Extended more value reply) = Answers o.pool (Widened more reply)

@@ -14,9 +14,9 @@ use Rattle.model_pool.specs.Machine.{next, IsReply, pool}
 use Rattle.model_steps.specs.Machine.{Reaches, OnEveryHistory, SatisfiesSpec, RefusesWhereDue, IsProved}
 use Rattle.model_steps.proofs.cited.MachineLemmas.{always_by, machine_proved}
 use Rattle.model_pool.proofs.cited.PoolKeeps.{pool_proved, number_after}
-use Rattle.model_pool.specs.slots.SlotCalls.{SlotCall, pool_calls}
-use Rattle.model_pool.specs.slots.SlotsObject.{SlotsObject, fresh_slots, PoolAnswers, SlotAnswers, slots_after, IsSlotsRun}
-use Rattle.model_pool.specs.slots.Machine.{slots, slots_next, IsPoolReply, IsSlotReply}
+use Rattle.model_pool.specs.slots.SlotCalls.{SlotCall, pool_calls, OfPoolAlone}
+use Rattle.model_pool.specs.slots.SlotsObject.{SlotsObject, fresh_slots, SlotAnswers, slots_after, IsSlotsRun}
+use Rattle.model_pool.specs.slots.Machine.{slots, slots_next, IsSlotReply}
 use Rattle.model_pool.proofs.slots_lemmas.SlotLemmas.{wider}
 
 -- the pool's part of two lists, one after the other
@@ -46,7 +46,7 @@ record Stands {T : Type 0} (size : PoolStart) (first : List T) (s : SlotsState T
   many : length object.values ≡ object.pool.size
 
 -- a call of the pool alone keeps its size
-size_kept : (w : PoolState) (o : PoolObject) (h : Call) → IsPoolReply w h → (after o h).size ≡ o.size
+size_kept : (w : PoolState) (o : PoolObject) (h : Call) → OfPoolAlone (IsReply w) h → (after o h).size ≡ o.size
 size_kept w o (Entered p (Ok done)) is = refl
 size_kept w o (Probed p (Ok Missed)) is = refl
 size_kept w o (Sought p (Ok n)) is = refl
@@ -55,11 +55,11 @@ size_kept w o (Widened more reply) is = absurd is
 size_kept w o h is = refl
 
 -- its reply is that of the pool
-pool_reply : (w : PoolState) (h : Call) → IsPoolReply w h → IsReply w h
+pool_reply : (w : PoolState) (h : Call) → OfPoolAlone (IsReply w) h → IsReply w h
 pool_reply w (Widened more reply) is = absurd is
 pool_reply w h is = is
 
-pool_answers : (w : PoolState) (o : PoolObject) (h : Call) → IsPoolReply w h → Answers o h → PoolAnswers o h
+pool_answers : (w : PoolState) (o : PoolObject) (h : Call) → OfPoolAlone (IsReply w) h → Answers o h → OfPoolAlone (Answers o) h
 pool_answers w o (Widened more reply) is right = absurd is
 pool_answers w o h is right = right
 
@@ -92,7 +92,7 @@ module _ {T : Type 0} (size : PoolStart) (first : List T) (s : SlotsState T) (r 
   pool_run_on : (h : Call) → IsReply s.pool h → IsRun size (pool_calls r ++ h ∷ []) (after t.object.pool h)
   pool_run_on h is = run_more after Answers (fresh_object size) (pool_calls r) t.object.pool h t.pool_run (pool_right h is)
 
-  pooled_keeps : (h : Call) → IsPoolReply s.pool h → Stands size first (record s { pool = next s.pool h }) (r ++ Pooled h ∷ [])
+  pooled_keeps : (h : Call) → OfPoolAlone (IsReply s.pool) h → Stands size first (record s { pool = next s.pool h }) (r ++ Pooled h ∷ [])
   pooled_keeps h own =
       let is : IsReply s.pool h = pool_reply s.pool h own in
       record {

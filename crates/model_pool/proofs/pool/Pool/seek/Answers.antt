@@ -1,15 +1,14 @@
-use Rattle.std.proofs.Common.{◌≡◌, ◌≤◌, ℕ, suc, inl, inr, Some, None, Ok, Err, refl, sym, ap, ◌∙◌, arith}
-use Rattle.model_pool.proofs.Common.{leb_tells, NotCompeting, Holding, Registers, Gets, Stay, Seeking, Settled, stay_of, probe_answer, after_probe, Probed, Sought, PoolState}
+use Rattle.std.proofs.Common.{rules, ◌≡◌, ◌≤◌, ℕ, suc, inl, inr, Ok, Err, refl, ap, arith}
+use Rattle.model_pool.proofs.Common.{leb_tells, Registers, Gets, Seeking, Settled, Probed, Sought, PoolState}
 use Rattle.model_pool.specs.Acquired.{IsSought}
 use Rattle.model_pool.specs.Invariant.{AreSetBelow}
-use Rattle.model_pool.specs.Stay.{IsWithin}
 use Rattle.model_pool.specs.Sought.{sought_on, seek_answer, after_seek}
 use Rattle.model_pool.proofs.Acquiring.{sought, sought_after}
-use Rattle.model_pool.proofs.RosterLemmas.{stay_within, stays_put}
+use Rattle.model_pool.proofs.RosterLemmas.{stays_put}
 use Rattle.model_pool.proofs.SoughtLemmas.{gets_sought}
+use Rattle.model_pool.proofs.CallLemmas.{refused}
 use Rattle.model_pool.proofs.cited.PoolKeeps.{pool_law, pool_proved}
 use Rattle.model_pool.proofs.pool.Pool.seek.Goals as goal
-use Rattle.model_pool.proofs.pool.Pool.seek.Goals.{In-Some, After-max}
 
 -- all bits below this one are set, and it is one of the pool
 record IsLowAfter (bits : Registers (Unit {0})) (size new : ℕ) : Type 0 where
@@ -17,61 +16,25 @@ record IsLowAfter (bits : Registers (Unit {0})) (size new : ℕ) : Type 0 where
   last : new ≤ size
   below : AreSetBelow new bits
 
--- one who holds a number is refused, and nothing changes
-record IsHolding (w : PoolState) (id : ℕ) : Type 0 where
-  seek : Err Holding ≡ seek_answer w id
-  sought : w ≡ after_seek w id
-  probe : Err Holding ≡ probe_answer w id
-  probed : w ≡ after_probe w id
-
-pub returns-in_default : goal.returns-in_default
-returns-in_default g c =
-    let absent : stay_of c.args.id c.args.self.now.competitors ≡ None = sym (c.in_default.ensures ∙ ap (λ (w : PoolState). stay_of c.args.id w.competitors) c.self.view_is) in
-    let answer : Err NotCompeting ≡ seek_answer c.args.self.now c.args.id = rw absent refl in
-    let state : c.args.self.now ≡ after_seek c.args.self.now c.args.id = rw absent refl in
-    let probe : Err NotCompeting ≡ probe_answer c.args.self.now c.args.id = rw absent refl in
-    let still : c.args.self.now ≡ after_probe c.args.self.now c.args.id = rw absent refl in
-    record {
-      answer = answer;
-      state = state;
+pub returns-in_err-first : goal.returns-in_err-first
+returns-in_err-first g c =
+    let why = c.in_err-first.field-0.0 in
+    let r = refused c.args.self.now c.args.id why c.in_err-first.ensures.refused in
+    let is : c.from_residual.result ≡ Err why = search rules in
+    rw is (record {
+      answer = r.seek;
+      state = r.sought;
       unchanged_on_error = refl;
-      after = pool_proved.call c.args.self.now c.args.self.now (Sought c.args.id (Err NotCompeting)) state answer;
+      after = pool_proved.call c.args.self.now c.args.self.now (Sought c.args.id (Err why)) r.sought r.seek;
       law = pool_law _;
       sought = tt;
-      shorthand = pool_proved.call c.args.self.now c.args.self.now (Probed c.args.id (Err NotCompeting)) still probe;
-    }
-
--- the state that was found
-found_here : (g : _) (c : In-Some g) → stay_of c.args.id c.args.self.now.competitors ≡ Some c.in-Some.stay
-found_here g c = sym (c.in-Some.ensures ∙ ap (λ (w : PoolState). stay_of c.args.id w.competitors) c.self.view_is)
-
--- who does not seek holds a number
-not_seeking : (w : PoolState) (id : ℕ) (stay : Stay) → stay_of id w.competitors ≡ Some stay → ((n : ℕ) → stay ≡ Seeking n → ⊥) → IsHolding w id
-not_seeking w id (Seeking next) here other = absurd (other next refl)
-not_seeking w id (Settled number) here other = record { seek = rw here refl; sought = rw here refl; probe = rw here refl; probed = rw here refl }
-
-pub returns-in_default-stay : goal.returns-in_default-stay
-returns-in_default-stay g c =
-    let h = not_seeking c.args.self.now c.args.id c.in-Some.stay (found_here g (goal.at.returns-in_default-stay g c).In-Some) c.in_default-stay.not-Seeking in
-    record {
-      answer = h.seek;
-      state = h.sought;
-      unchanged_on_error = refl;
-      after = pool_proved.call c.args.self.now c.args.self.now (Sought c.args.id (Err Holding)) h.sought h.seek;
-      law = pool_law _;
-      sought = tt;
-      shorthand = pool_proved.call c.args.self.now c.args.self.now (Probed c.args.id (Err Holding)) h.probed h.probe;
-    }
-
--- what is noted of the competitor that seeks
-seeks_here : (g : _) (c : After-max g) → stay_of c.args.id c.self.inside.competitors.competitors ≡ Some (Seeking c.in-Seeking.next)
-seeks_here g c = sym (c.in-Some.ensures) ∙ ap Some c.in-Seeking.is
+      shorthand = pool_proved.call c.args.self.now c.args.self.now (Probed c.args.id (Err why)) r.probed r.probe;
+    })
 
 pub seek-number-requires : goal.seek-number-requires
 seek-number-requires g c =
     let i = c.self.invariant in
-    let within : IsWithin c.self.inside.size (Seeking c.in-Seeking.next) = stay_within c.self.inside.size c.args.id c.self.inside.competitors.competitors (Some (Seeking c.in-Seeking.next)) i.stays (sym (seeks_here g c)) in
-    let low : 1 ≤ c.in-Seeking.next = within in
+    let low : 1 ≤ c.in_ok-first.first = c.in_ok-first.ensures.range in
     record {
       some = (low, i.first);
       from = (omega (arith, c.max.ensures), omega (arith, c.max.ensures, i.low_last));
@@ -88,7 +51,7 @@ invariant_of-self g c =
       | inl w ↦ record {
         first = omega (arith, w.1, range.0);
         last = omega (arith, w.1, range.1);
-        below = λ k from less. elim (leb_tells (suc k) c.in-Seeking.next) [
+        below = λ k from less. elim (leb_tells (suc k) c.in_ok-first.first) [
           | inl before ↦ c.seek-number.ensures.kept c.self.inside.low i.below k from (omega (arith, before.1, w.0))
           | inr behind ↦ c.seek-number.ensures.set k (omega (arith, behind.1)) (omega (arith, w.1, less))
         ];
@@ -111,20 +74,20 @@ invariant_of-self g c =
 
 pub returns : goal.returns
 returns g c =
-    let f : stay_of c.args.id c.args.self.now.competitors ≡ Some (Seeking c.in-Seeking.next) = found_here g (goal.at.returns g c).In-Some ∙ ap Some c.in-Seeking.is in
+    let f = c.in_ok-first.ensures.seeks in
     let m : c.self.inside.bits ≡ c.args.self.now.bits = ap (λ w. w.bits) c.self.view_is in
     let z : c.self.inside.size ≡ c.args.self.now.size = ap (λ w. w.size) c.self.view_is in
     let k : c.self.inside.competitors.most ≡ c.args.self.now.most = ap (λ w. w.most) c.self.view_is in
     let v : c.self.inside.competitors.competitors ≡ c.args.self.now.competitors = ap (λ w. w.competitors) c.self.view_is in
     let n = c.seek-number.result in
     let bits = c.seek-number.new.bits in
-    let gets : Gets c.args.self.now.size c.in-Seeking.next c.args.self.now.bits n bits = rw (z, m) at c.seek-number.ensures.probes in
+    let gets : Gets c.args.self.now.size c.in_ok-first.first c.args.self.now.bits n bits = rw (z, m) at c.seek-number.ensures.probes in
     let some : 1 ≤ c.args.self.now.size = rw z at c.self.invariant.first in
-    let is : sought_on c.args.self.now.size c.args.self.now.size (Seeking c.in-Seeking.next) c.args.self.now.bits ≡ (n, bits) = gets_sought c.args.self.now.size c.in-Seeking.next n c.args.self.now.bits bits some gets in
+    let is : sought_on c.args.self.now.size c.args.self.now.size (Seeking c.in_ok-first.first) c.args.self.now.bits ≡ (n, bits) = gets_sought c.args.self.now.size c.in_ok-first.first n c.args.self.now.bits bits some gets in
     let answer : Ok n ≡ seek_answer c.args.self.now c.args.id = rw (f, is) refl in
     let new : PoolState = record { most = c.put.new.self.most; size = c.self.inside.size; bits = bits; competitors = c.put.new.self.competitors } in
     let state : new ≡ after_seek c.args.self.now c.args.id = rw (f, is) (rw (c.put.ensures, k, z, v) refl) in
-    let is_sought : IsSought c.args.self.now c.args.id n new = rw (c.put.ensures, k, z, v) (sought c.args.self.now c.args.id c.in-Seeking.next n bits f gets) in
+    let is_sought : IsSought c.args.self.now c.args.id n new = rw (c.put.ensures, k, z, v) (sought c.args.self.now c.args.id c.in_ok-first.first n bits f gets) in
     record {
       answer = answer;
       state = state;
