@@ -1,6 +1,6 @@
 -- what a seat can tell of the end of a participant, and what two that tell so show
-use Rattle.std.proofs.Common.{◌≡◌, ℕ, ⊎_elim, Some, None, subst, sym, refl, ap, ◌∙◌, List, [], ◌∷◌, ◌++◌, length, set, Bool}
-use Rattle.words_machine.proofs.Common.{Splits, Joins, Each, each_set, each_pushed, Stand, SeatView, view_of, lone_view, WordLaw, Reaches, IsEnding, Shows, IsRunning, KeepsRun, IsUnderRule, WordsId}
+use Rattle.std.proofs.Common.{◌≡◌, ℕ, ⊎_elim, Some, None, subst, sym, refl, ap, ◌∙◌, List, [], ◌∷◌, ◌++◌, length, set}
+use Rattle.words_machine.proofs.Common.{Splits, Joins, Each, each_set, each_pushed, Stand, SeatView, view_of, lone_view, WordLaw, Reaches, IsEnding, Shows, KeepsRun, IsUnderRule, WordsId}
 use mathlib.Core.Option.{some}
 use lib.ListN.{get_elem?}
 use Rattle.atomic_table.proofs.Lists.{at_set}
@@ -8,12 +8,9 @@ use Rattle.atomic_table.specs.Seated.{TableId}
 use Rattle.words_machine.specs.declared.seat_view.Ending.{Ending}
 use Rattle.words_machine.specs.SeatViews.{ending_at, endings_at, endings_of}
 use Rattle.words_machine.specs.Ids.{ClaimId, claim_at, most_in, HaveReported}
+use Rattle.words_machine.proofs.Dealing.{with_views}
 
 module _ {P R O : Type 0} (law : WordLaw P R O) where
-  -- the rule with other views, each of which is so
-  with_views : (n : ℕ) (words : List ℕ) (views others : List (SeatView P O)) (h : IsRunning law n words views) → ((seat : ℕ) (v : SeatView P O) → get_elem? others seat ≡ some v → Shows law n h.w h.r h.seat_of seat v) → IsRunning law n words others
-  with_views n words views others h shown = record { w = h.w; r = h.r; holds = h.holds; spelled = h.spelled; as_many = h.as_many; counted = h.counted; seat_of = h.seat_of; shown = shown }
-
   -- a view that tells of ends alone is so at any seat
   tells : (n : ℕ) (seat : ℕ) (m : ℕ) (w : law.State) (r : List law.Call) (seat_of : ℕ → ℕ) (ends : List (Ending O)) → Each (IsEnding law n r m) ends → Shows law n w r seat_of seat (view_of m [] ends)
   tells n seat m w r seat_of ends so = record { stands = tt; once = tt; endings = so }
@@ -28,7 +25,7 @@ module _ {P R O : Type 0} (law : WordLaw P R O) where
           | None ↦ λ _. tt
           | Some outcome ↦ λ is. (record { seats_are = mine.seats_are; ended = mine.outcome_is ∙ is }, tt)
         ] refl in
-        with_views n s.words s.views (set s.views seat (lone_view m a) ++ view_of m [] (endings_of (a ∷ [])) ∷ []) h
+        with_views law n s.words s.views (set s.views seat (lone_view m a) ++ view_of m [] (endings_of (a ∷ [])) ∷ []) h h.seat_of
         (each_pushed (Shows law n h.w h.r h.seat_of) (set s.views seat (lone_view m a)) (view_of m [] (endings_of (a ∷ [])))
         (each_set (Shows law n h.w h.r h.seat_of) s.views seat (lone_view m a) shown (λ j u _ at. h.shown j u at))
         (tells n (length (set s.views seat (lone_view m a))) m h.w h.r h.seat_of (endings_of (a ∷ [])) so))
@@ -40,7 +37,7 @@ module _ {P R O : Type 0} (law : WordLaw P R O) where
           let was : get_elem? s.views other ≡ some (view_of m [] (a ∷ [])) = ⊎_elim (λ t. absurd (apart t.0)) (λ t. t.1) (at_set s.views seat other (view_of m [] (a ∷ b ∷ [])) (view_of m [] (a ∷ [])) e') in
           let own = (h.shown seat (view_of m [] (b ∷ [])) e).endings in
           let theirs = (h.shown other (view_of m [] (a ∷ [])) was).endings in
-          with_views n s.words s.views (set (set s.views seat (view_of m [] (a ∷ b ∷ []))) other (view_of 0 [] [])) h
+          with_views law n s.words s.views (set (set s.views seat (view_of m [] (a ∷ b ∷ []))) other (view_of 0 [] [])) h h.seat_of
           (each_set (Shows law n h.w h.r h.seat_of) (set s.views seat (view_of m [] (a ∷ b ∷ []))) other (view_of 0 [] []) (tells n other 0 h.w h.r h.seat_of [] tt)
           (λ j u _ at. each_set (Shows law n h.w h.r h.seat_of) s.views seat (view_of m [] (a ∷ b ∷ [])) (tells n seat m h.w h.r h.seat_of (a ∷ b ∷ []) (theirs.0, own)) (λ i v _ there. h.shown i v there) j u at))
 
@@ -48,7 +45,7 @@ module _ {P R O : Type 0} (law : WordLaw P R O) where
       pub may_forget : Splits {S = S} {V = SeatView P O} (KeepsRun law n) seat (view_of m [] (a ∷ b ∷ [])) (view_of m [] (b ∷ [])) (view_of m [] (a ∷ []))
       may_forget s h e =
           let own = (h.shown seat (view_of m [] (a ∷ b ∷ [])) e).endings in
-          with_views n s.words s.views (set s.views seat (view_of m [] (b ∷ [])) ++ view_of m [] (a ∷ []) ∷ []) h
+          with_views law n s.words s.views (set s.views seat (view_of m [] (b ∷ [])) ++ view_of m [] (a ∷ []) ∷ []) h h.seat_of
           (each_pushed (Shows law n h.w h.r h.seat_of) (set s.views seat (view_of m [] (b ∷ []))) (view_of m [] (a ∷ []))
           (each_set (Shows law n h.w h.r h.seat_of) s.views seat (view_of m [] (b ∷ [])) (tells n seat m h.w h.r h.seat_of (b ∷ []) own.1) (λ j u _ at. h.shown j u at))
           (tells n (length (set s.views seat (view_of m [] (b ∷ [])))) m h.w h.r h.seat_of (a ∷ []) (own.0, tt)))

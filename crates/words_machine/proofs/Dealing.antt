@@ -1,5 +1,5 @@
 -- a table opens under the rule, and keeps it where a participant goes to a new seat, or to another that takes it in
-use Rattle.std.proofs.Common.{◌≡◌, ◌≢◌, ℕ, zero, suc, ◌+◌, ◌-◌, ◌<◌, Bool, true, false, if◌then◌else◌, inl, ⊎_elim, sym, refl, ap, ◌∙◌, subst, arith, List, [], ◌∷◌, length, set, slice_set, slice_index, take, drop, replicate, get_or, is_some}
+use Rattle.std.proofs.Common.{◌≡◌, ◌≢◌, ℕ, zero, suc, ◌+◌, ◌-◌, ◌<◌, ⊎_elim, sym, refl, ap, ◌∙◌, subst, arith, List, [], ◌∷◌, ◌++◌, length, set, slice_set, slice_index, take, drop, replicate, get_or, is_some}
 use Rattle.words_machine.proofs.Common.{Me, Step, Allows, Splits, Joins, keeps, opening, set_at, set_at-same, set_at-other, own, IsFresh, count_to, fun_ext, ProgramSteps, Each, each_set, each_pushed, each_map, each_both, Stand, SeatView, view_of, unbegun, unbegun_from, undealt_from, WordLaw, IsStand, Shows, IsRunning, KeepsRun, IsAtRest, Looks}
 use Rattle.std.proofs.Math.ListN.{length-replicate}
 use Rattle.std.proofs.lemmas.List.{set-get_or}
@@ -78,6 +78,10 @@ module _ {P R O : Type 0} (law : WordLaw P R O) where
       endings = s.endings;
     }
 
+  -- the rule with other views, each of which is so
+  pub with_views : (n : ℕ) (words : List ℕ) (views others : List (SeatView P O)) (h : IsRunning law n words views) (seat_of : ℕ → ℕ) → ((seat : ℕ) (v : SeatView P O) → get_elem? others seat ≡ some v → Shows law n h.w h.r seat_of seat v) → IsRunning law n words others
+  with_views n words views others h seat_of shown = record { w = h.w; r = h.r; holds = h.holds; spelled = h.spelled; as_many = h.as_many; counted = h.counted; seat_of = seat_of; shown = shown }
+
   -- one that goes to a seat stands there
   moves_to : (most : ℕ) (w : law.State) (r : List law.Call) (new seat : ℕ) (seat_of : ℕ → ℕ) (seats : ℕ) (s : Stand P O) → IsStand law most w r seat_of seat seats s → IsStand law most w r (set_at seat_of s.number new) new seats s
   moves_to most w r new seat seat_of seats s x = record {
@@ -107,19 +111,11 @@ module _ {P R O : Type 0} (law : WordLaw P R O) where
           endings = tt;
         } in
         let kept_right : Shows law n h.w h.r seat_of new right = record { stands = (moves_to n h.w h.r new seat h.seat_of m a moved, tt); once = (tt, tt); endings = tt } in
-        record {
-          w = h.w;
-          r = h.r;
-          holds = h.holds;
-          spelled = h.spelled;
-          as_many = h.as_many;
-          counted = h.counted;
-          seat_of = seat_of;
-          shown = each_pushed (Shows law n h.w h.r seat_of) (set s.views seat left) right
-              (each_set (Shows law n h.w h.r seat_of) s.views seat left kept_left
-              (λ j u other at. shows_elsewhere n h.w h.r a.number new j h.seat_of u (λ z. other (sym z ∙ moved.seat_is)) (h.shown j u at)))
-              kept_right;
-        }
+        with_views n s.words s.views (set s.views seat left ++ right ∷ []) h seat_of
+        (each_pushed (Shows law n h.w h.r seat_of) (set s.views seat left) right
+        (each_set (Shows law n h.w h.r seat_of) s.views seat left kept_left
+        (λ j u other at. shows_elsewhere n h.w h.r a.number new j h.seat_of u (λ z. other (sym z ∙ moved.seat_is)) (h.shown j u at)))
+        kept_right)
 
     -- another seat's only participant becomes this seat's, before its own
     pub may_unite : (other : ℕ) → Joins {S = S} {V = SeatView P O} (KeepsRun law n) seat (view_of m rest []) other (view_of m (a ∷ []) []) (view_of m (a ∷ rest) []) (view_of 0 [] [])
@@ -142,17 +138,9 @@ module _ {P R O : Type 0} (law : WordLaw P R O) where
         let Now : ℕ → SeatView P O → Type 0 = λ j u. j ≢ other → Shows law n h.w h.r seat_of j u in
         let now = each_set Now s.views seat (view_of m (a ∷ rest) []) (λ _. united)
         (λ j u _ f far. shows_elsewhere n h.w h.r a.number seat j h.seat_of u (λ g. far (sym g ∙ theirs.seat_is)) (h.shown j u f)) in
-        record {
-          w = h.w;
-          r = h.r;
-          holds = h.holds;
-          spelled = h.spelled;
-          as_many = h.as_many;
-          counted = h.counted;
-          seat_of = seat_of;
-          shown = each_set (Shows law n h.w h.r seat_of) (set s.views seat (view_of m (a ∷ rest) [])) other (view_of 0 [] [])
-              (record { stands = tt; once = tt; endings = tt }) (λ j u far f. now j u f far);
-        }
+        with_views n s.words s.views (set (set s.views seat (view_of m (a ∷ rest) [])) other (view_of 0 [] [])) h seat_of
+        (each_set (Shows law n h.w h.r seat_of) (set s.views seat (view_of m (a ∷ rest) [])) other (view_of 0 [] [])
+        (record { stands = tt; once = tt; endings = tt }) (λ j u far f. now j u f far))
 
   -- a look changes nothing
   pub may_look : {S : Type 0} (n : ℕ) (seat : ℕ) (v : SeatView P O) (slots word : ℕ) (st : Step S) → ((w : law.State) (r : List law.Call) (seat_of : ℕ → ℕ) → Shows law n w r seat_of seat v → v.most ≡ n) → IsAtRest v.stands

@@ -1,6 +1,6 @@
 -- the accesses of a seat whose participant stands here
-use Rattle.std.proofs.Common.{◌≡◌, ℕ, ◌+◌, List, [], ◌∷◌, Option, Some, None, subst, sym, refl, ap, ◌∙◌, arith}
-use Rattle.words_machine.proofs.Common.{Me, Step, Allows, ProgramSteps, Read, Write, Access, TestAndSet, Clear, Nothing, Value, Done, Answer, Note, Participant, outcome_in, Stand, SeatView, own, stand_at, lone_view, WordLaw, IsAlike, IsOwnAccess, IsSound, GoesOn, KeepsRun, standing, stand_after, Reads, Writes, Stands, HasGot, HasStepped, accesses_in}
+use Rattle.std.proofs.Common.{◌≡◌, ℕ, ◌+◌, List, [], ◌∷◌, Option, Some, None, subst, sym, refl, ap, ◌∙◌}
+use Rattle.words_machine.proofs.Common.{Me, Step, Allows, ProgramSteps, Read, Write, Access, TestAndSet, Clear, Nothing, Value, Done, Answer, Note, Participant, Stand, SeatView, own, stand_at, lone_view, WordLaw, IsAlike, IsOwnAccess, IsSound, GoesOn, KeepsRun, standing, Reads, Writes, Stands, HasGot, HasStepped, accesses_in}
 use Rattle.words_machine.proofs.Stepping.{reads, writes}
 use Rattle.words_machine.specs.Ids.{participant_by}
 

@@ -1,6 +1,6 @@
 -- the kinds of step by which a participant goes on keep the rule
 use Rattle.std.proofs.Common.{◌≡◌, ◌≢◌, ℕ, ◌+◌, ◌<◌, ◌≤◌, inl, inr, Bool, true, false, List, [], ◌∷◌, set, slice_set, slice_index, Option, Some, None, subst, sym, refl, ap, ◌∙◌, arith, is_some}
-use Rattle.words_machine.proofs.Common.{Me, Step, Allows, keeps, set_at, set_at-same, set_at-other, outcome_in, answer_in, one_more, program_at, moved, IsOnce, begun_of, count_to, fun_ext, ProgramSteps, Read, Write, Value, Done, Answer, Participant, each_set, there_still, each_map, Stand, Ending, SeatView, own, stand_at, lone_view, WordLaw, IsAlike, IsSound, IsStand, IsEnding, Shows, IsRunning, KeepsRun, GoesOn, standing, stand_after, IsUnder, Stands, HasGot, Reads, Writes}
+use Rattle.words_machine.proofs.Common.{Step, Allows, keeps, set_at, set_at-same, set_at-other, outcome_in, answer_in, one_more, moved, IsOnce, begun_of, count_to, fun_ext, ProgramSteps, Read, Write, Value, Done, Answer, Participant, each_set, there_still, each_map, Stand, Ending, SeatView, own, stand_at, lone_view, WordLaw, IsSound, IsStand, IsEnding, Shows, IsRunning, KeepsRun, GoesOn, standing, stand_after, IsUnder, Stands, HasGot, Reads, Writes}
 use Rattle.model_steps.proofs.cited.SetAtLemmas.{set_at-as_is}
 use Rattle.model_steps.proofs.cited.CountLemmas.{count_more, count_to-lt, count_to-le}
 use Rattle.std.proofs.lemmas.List.{length-set, set-get_or, get_or-set_same, get_or-set_other}

@@ -1,5 +1,5 @@
 -- recursive renaming as a machine of programs over words
-use Rattle.std.specs.Prelude.{◌≡◌, ℕ, ◌+◌, ◌-◌, ◌*◌, ◌%◌, ◌==◌, ◌≤◌, if◌then◌else◌, List}
+use Rattle.std.specs.Prelude.{ℕ, ◌+◌, ◌-◌, ◌*◌, ◌%◌, ◌==◌, ◌≤◌, if◌then◌else◌, List}
 use Rattle.model_steps.specs.Calls as calls
 use Rattle.model_steps.specs.Machine.{Reaches}
 use Rattle.model_recursion.specs.Calls.{SeatCall, calls_of}

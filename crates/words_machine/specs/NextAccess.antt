@@ -12,8 +12,12 @@ IsNeither (Read r) = ⊥
 IsNeither (Write r v) = ⊥
 IsNeither a = Unit {0}
 
+-- this access to a register is that access to a word
+abbrev pub IsOf : {R : Type 0} → Access R ℕ → WordAccess R → Type 0
+IsOf a (Load r) = a ≡ Read r
+IsOf a (Store r word) = a ≡ Write r word
+IsOf a Nothing = IsNeither a
+
 -- the next access is this one
 abbrev pub IsNext : {P R O : Type 0} → ProgramSteps P R ℕ O → P → WordAccess R → Type 0
-IsNext program u (Load r) = program.next u ≡ Read r
-IsNext program u (Store r word) = program.next u ≡ Write r word
-IsNext program u Nothing = IsNeither (program.next u)
+IsNext program u access = IsOf (program.next u) access

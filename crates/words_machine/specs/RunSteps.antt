@@ -1,5 +1,5 @@
 -- what each kind of step tells the seat that makes it
-use Rattle.std.specs.Prelude.{◌≡◌, ℕ, ◌+◌, ◌<◌, true, List, [], ◌∷◌, map, Option, Some, None, IsSome}
+use Rattle.std.specs.Prelude.{◌≡◌, ℕ, ◌+◌, true, List, [], ◌∷◌, Option, Some, None, IsSome}
 use mathlib.Core.Option.{some}
 use lib.ListN.{get_elem?}
 use Rattle.atomic_table.specs.Table.{Me, Step}
@@ -13,7 +13,7 @@ use Rattle.model_steps.specs.Note.{ends}
 use Rattle.model_steps.specs.Steps.{ProgramSteps}
 use Rattle.words_machine.specs.declared.seat_view.Stand.{Stand}
 use Rattle.words_machine.specs.declared.seat_view.SeatView.{SeatView}
-use Rattle.words_machine.specs.SeatViews.{own, stand_at, view_of, lone_view}
+use Rattle.words_machine.specs.SeatViews.{own, stand_at, lone_view}
 use Rattle.words_machine.specs.WordLaw.{WordLaw, IsAlike, IsOwnAccess, GoesOn, program_at, moved}
 use Rattle.words_machine.specs.RunRule.{IsRunning}
 

@@ -9,7 +9,7 @@ ghost use Rattle.words_machine.specs.lemmas.NamesSound.{names_sound};
 use crate::program::WordProgram;
 use crate::word_access::WordAccess;
 use model_recursion::{Cell, Namer};
-use model_steps::{Access, Answer, Note, StepProgram};
+use model_steps::{Answer, Note, StepProgram};
 
 /// Returns the number of an instance among those of its level.
 #[inline(always)]
@@ -30,11 +30,7 @@ impl WordProgram for Namer {
 
     type Output = u16;
 
-    type End = Namer;
-
     ghost steps = { namer_steps };
-
-    ghost end_of = { λ u. u };
 
     ghost law = { names_law };
 
@@ -58,13 +54,7 @@ impl WordProgram for Namer {
 
     #[inline(always)]
     fn access(&self) -> WordAccess<Cell> {
-        match self.next() {
-            Access::Read(r) => WordAccess::Load(r),
-            Access::Write(r, word) => WordAccess::Store(r, word),
-            Access::TestAndSet(_) => WordAccess::Nothing,
-            Access::Clear(_) => WordAccess::Nothing,
-            Access::Nothing => WordAccess::Nothing,
-        }
+        WordAccess::of(self.next())
     }
 
     #[inline(always)]
@@ -75,10 +65,6 @@ impl WordProgram for Namer {
     #[inline(always)]
     fn take_done(&mut self) -> Note<u16> {
         self.resume(Answer::Done)
-    }
-
-    fn end(&self) -> Namer {
-        *self
     }
 
     fn start(most: u64, seat: u64, identity: u64) -> Self

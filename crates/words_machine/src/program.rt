@@ -20,14 +20,8 @@ pub trait WordProgram {
     /// What the program ends with.
     type Output;
 
-    /// What is kept of a program that has ended.
-    type End: Copy;
-
     /// The next access of a program, and its state after each answer.
     ghost steps: { ProgramSteps Self Self.Reg ℕ Self.Output };
-
-    /// What is kept of a program that has ended.
-    ghost end_of: { Self → Self.End };
 
     /// Its machine, and which words its registers are.
     ghost law: { WordLaw Self Self.Reg Self.Output };
@@ -56,10 +50,6 @@ pub trait WordProgram {
     fn take_done(&mut self) -> Note<Self::Output>
         ensures after { self.new ≡ steps.resumed self.old Done }
         ensures note { result ≡ steps.note self.old Done };
-
-    /// Returns what is kept of a program that has ended.
-    fn end(&self) -> Self::End
-        ensures { result ≡ end_of self.now };
 
     /// Returns the program of a seat, from 1 on, that begins with an identity.
     fn start(most: u64, seat: u64, identity: u64) -> Self

@@ -117,7 +117,7 @@ impl<P: WordProgram + Drop> RunningSeat<P> {
     }
 }
 
-/// A seat whose participant has ended: what is kept of its program, and what it has ended with.
+/// A seat whose participant has ended: at which program, and with what.
 #[derive(Drop)]
 pub struct EnteredSeat<P: WordProgram + Drop>
 where
@@ -125,7 +125,7 @@ where
 {
     pub(crate) number: u64,
     pub(crate) identity: u64,
-    pub(crate) end: P::End,
+    pub(crate) program: P,
     pub(crate) outcome: P::Output,
     pub(crate) accesses: u64,
     pub(crate) badge: Badge<SeatView<P, P::Output>>,
@@ -145,7 +145,7 @@ where
     ghost invariant = { λ e. IsOfEnded e.number e.identity (program_in P.law e.number e.identity e.badge.views) e.outcome e.badge.views
         × HasRun P.law (ended_run e.badge.table_id e.number e.identity (program_in P.law e.number e.identity e.badge.views) e.outcome e.badge.views)
         × (e.accesses ≡ accesses_in e.badge.views)
-        × (e.end ≡ P.end_of (program_in P.law e.number e.identity e.badge.views)) };
+        × (e.program ≡ program_in P.law e.number e.identity e.badge.views) };
 }
 
 impl<P: WordProgram + Drop> EnteredSeat<P>
@@ -166,14 +166,14 @@ where
         self.identity
     }
 
-    /// Returns what is kept of the program at which it has ended.
-    pub fn end(&self) -> P::End
-        ensures value { result ≡ P.end_of self.now.program }
+    /// Returns the program at which it has ended.
+    pub fn end(&self) -> &P
+        ensures value { result.now ≡ self.now.program }
 
         // There is a list of calls after which it has ended so.
         ensures law { HasRun P.law self.now }
     {
-        self.end
+        &self.program
     }
 
     /// Returns what its program has ended with.

@@ -8,18 +8,14 @@ ghost use Rattle.words_machine.specs.lemmas.Visits.{visit_law, visit_words_sound
 use crate::program::WordProgram;
 use crate::word_access::WordAccess;
 use model_splitter::{Visitor, Way};
-use model_steps::{Access, Answer, Note, StepProgram};
+use model_steps::{Answer, Note, StepProgram};
 
 impl WordProgram for Visitor<usize> {
     type Reg = usize;
 
     type Output = Way;
 
-    type End = Visitor<usize>;
-
     ghost steps = { visitor_steps };
-
-    ghost end_of = { λ u. u };
 
     ghost law = { visit_law };
 
@@ -36,13 +32,7 @@ impl WordProgram for Visitor<usize> {
     }
 
     fn access(&self) -> WordAccess<usize> {
-        match self.next() {
-            Access::Read(r) => WordAccess::Load(r),
-            Access::Write(r, word) => WordAccess::Store(r, word),
-            Access::TestAndSet(_) => WordAccess::Nothing,
-            Access::Clear(_) => WordAccess::Nothing,
-            Access::Nothing => WordAccess::Nothing,
-        }
+        WordAccess::of(self.next())
     }
 
     fn take_word(&mut self, word: u64) -> Note<Way> {
@@ -51,10 +41,6 @@ impl WordProgram for Visitor<usize> {
 
     fn take_done(&mut self) -> Note<Way> {
         self.resume(Answer::Done)
-    }
-
-    fn end(&self) -> Visitor<usize> {
-        *self
     }
 
     fn start(_most: u64, seat: u64, _identity: u64) -> Self

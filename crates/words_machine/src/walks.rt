@@ -7,18 +7,14 @@ ghost use Rattle.words_machine.specs.lemmas.Walks.{walk_law, walk_words_sound};
 use crate::program::WordProgram;
 use crate::word_access::WordAccess;
 use model_splitter::grid::{Door, Walker};
-use model_steps::{Access, Answer, Note, Place, StepProgram};
+use model_steps::{Answer, Note, Place, StepProgram};
 
 impl WordProgram for Walker {
     type Reg = usize;
 
     type Output = Place;
 
-    type End = Walker;
-
     ghost steps = { walker_steps };
-
-    ghost end_of = { λ u. u };
 
     ghost law = { walk_law };
 
@@ -36,13 +32,7 @@ impl WordProgram for Walker {
     }
 
     fn access(&self) -> WordAccess<usize> {
-        match self.next() {
-            Access::Read(r) => WordAccess::Load(r),
-            Access::Write(r, word) => WordAccess::Store(r, word),
-            Access::TestAndSet(_) => WordAccess::Nothing,
-            Access::Clear(_) => WordAccess::Nothing,
-            Access::Nothing => WordAccess::Nothing,
-        }
+        WordAccess::of(self.next())
     }
 
     fn take_word(&mut self, word: u64) -> Note<Place> {
@@ -51,10 +41,6 @@ impl WordProgram for Walker {
 
     fn take_done(&mut self) -> Note<Place> {
         self.resume(Answer::Done)
-    }
-
-    fn end(&self) -> Walker {
-        *self
     }
 
     fn start(_most: u64, seat: u64, _identity: u64) -> Self

@@ -102,11 +102,10 @@ where
         let FreshSeat { number, mut seat } = fresh;
         let mut program = P::start(self.words.most(), number + 1, identity);
         let (outcome, accesses) = self.words.run(&mut seat, number, identity, &mut program);
-        let end = program.end();
         EnteredSeat {
             number,
             identity,
-            end,
+            program,
             outcome,
             accesses,
             badge: seat.into_badge(),
@@ -163,7 +162,7 @@ where
             Some(outcome) => Ok(EnteredSeat {
                 number,
                 identity,
-                end: program.end(),
+                program,
                 outcome,
                 accesses,
                 badge: seat.into_badge(),

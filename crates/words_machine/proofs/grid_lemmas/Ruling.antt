@@ -1,5 +1,5 @@
 -- what the rule says of a whole table
-use Rattle.std.proofs.Common.{◌≡◌, ℕ, ◌+◌, ◌*◌, ◌<◌, true, false, length, Option, sym, ap, ◌∙◌, arith}
+use Rattle.std.proofs.Common.{◌≡◌, ℕ, true, false, Option, sym, ap, ◌∙◌, arith}
 use Rattle.std.proofs.lemmas.List.{ext_get_or}
 use Rattle.model_steps.specs.RegisterState.{Registers}
 use Rattle.model_splitter.specs.declared.stage.VisitStage.{VisitStage}

@@ -7,6 +7,7 @@ use native.Mathlib.Decide.{ℕ_discrete}
 use lib.ListN.{get_elem?}
 use Rattle.atomic_table.specs.Table.{Me, Splits, opening}
 use Rattle.model_splitter.proofs.cited.DoorKept.{lawful_new}
+use Rattle.words_machine.specs.parts.SplitterRule.{IsHeld, IsKept}
 use Rattle.words_machine.specs.parts.SplitterView.{fresh_visit, view_of, unbegun_from, undealt_from}
 use Rattle.words_machine.proofs.parts_lemmas.Views.{each_set, each_pushed, HoldsAt, at_after, at_longer_list, at_its_end}
 use Rattle.words_machine.proofs.parts_lemmas.Accesses.{Has}
@@ -53,6 +54,12 @@ shows_elsewhere n k new seat seat_of stage turn u ne s = (
   s.1,
 )
 
+-- the rule with other views, each of which is so
+pub with_views : (n : ℕ) (words : List ℕ) (views others : List SplitterView) (h : IsKept n words views) (seat_of : ℕ → ℕ) →
+    ((number : ℕ) → number < n → IsHeld others (seat_of number) number) → ((seat : ℕ) (v : SplitterView) → get_elem? others seat ≡ some v → Shows n seat_of h.stage h.turn seat v) → IsKept n words others
+with_views n words views others h seat_of held shown =
+    record { x = h.x; y = h.y; words_are = h.words_are; stage = h.stage; lawful = h.lawful; turn = h.turn; last = h.last; seat_of = seat_of; held = held; shown = shown }
+
 -- the first visit goes to a new seat
 module _ {S : Type 0} (n seat m : ℕ) (v : Visit) (rest : List Visit) where
   pub first_dealt : Splits {S = S} {V = SplitterView} (KeepsRule n) seat (view_of m (v ∷ rest)) (view_of m rest) (view_of m (v ∷ []))
@@ -73,24 +80,15 @@ module _ {S : Type 0} (n seat m : ℕ) (v : Visit) (rest : List Visit) where
         (record { seats_are = moved.seats_are; in_range = moved.in_range; own = set_at-same h.seat_of v.number new; stage_is = moved.stage_is; turn_is = moved.turn_is; meets = moved.meets }, tt),
         (tt, tt),
       ) in
-      record {
-        x = h.x;
-        y = h.y;
-        words_are = h.words_are;
-        stage = h.stage;
-        lawful = h.lawful;
-        turn = h.turn;
-        last = h.last;
-        seat_of = seat_of;
-        held = λ number lt. set_at-cases h.seat_of v.number new (HoldsAt (Has number) (set s.views seat left ++ right ∷ [])) number
-            (λ same. at_its_end (Has number) (set s.views seat left) right (inl (sym same)))
-            (λ other. at_longer_list (Has number) (set s.views seat left) right (h.seat_of number)
-            (at_after (Has number) s.views seat (view_of m (v ∷ rest)) left e (⊎_elim (λ same. absurd (other (sym same))) (λ among. among)) (h.seat_of number) (h.held number lt)));
-        shown = each_pushed (Shows n seat_of h.stage h.turn) (set s.views seat left) right
-            (each_set (Shows n seat_of h.stage h.turn) s.views seat left kept_left
-            (λ j u other at. shows_elsewhere n v.number new j h.seat_of h.stage h.turn u (λ z. other (sym z ∙ moved.own)) (h.shown j u at)))
-            kept_right;
-      }
+      with_views n s.words s.views (set s.views seat left ++ right ∷ []) h seat_of
+      (λ number lt. set_at-cases h.seat_of v.number new (HoldsAt (Has number) (set s.views seat left ++ right ∷ [])) number
+      (λ same. at_its_end (Has number) (set s.views seat left) right (inl (sym same)))
+      (λ other. at_longer_list (Has number) (set s.views seat left) right (h.seat_of number)
+      (at_after (Has number) s.views seat (view_of m (v ∷ rest)) left e (⊎_elim (λ same. absurd (other (sym same))) (λ among. among)) (h.seat_of number) (h.held number lt))))
+      (each_pushed (Shows n seat_of h.stage h.turn) (set s.views seat left) right
+      (each_set (Shows n seat_of h.stage h.turn) s.views seat left kept_left
+      (λ j u other at. shows_elsewhere n v.number new j h.seat_of h.stage h.turn u (λ z. other (sym z ∙ moved.own)) (h.shown j u at)))
+      kept_right)
 
 -- the visit of the least number that is not yet dealt out comes first
 pub least_first : (number seats : ℕ) → number < seats → undealt_from number seats ≡ view_of seats (fresh_visit number ∷ unbegun_from (number + 1) (seats - (number + 1)))

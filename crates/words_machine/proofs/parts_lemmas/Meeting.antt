@@ -6,7 +6,7 @@ use lib.ListN.{get_elem?}
 use Rattle.words_machine.specs.parts.SplitterSteps.{Looks}
 use Rattle.words_machine.proofs.parts_lemmas.Views.{each_set, there_still, HoldsAt, at_after}
 use Rattle.words_machine.proofs.parts_lemmas.Accesses.{under_rule, Has}
-use Rattle.words_machine.proofs.parts_lemmas.Dealing.{elsewhere, shows_elsewhere}
+use Rattle.words_machine.proofs.parts_lemmas.Dealing.{with_views, elsewhere, shows_elsewhere}
 
 -- the view of a seat with one visit, and of one with two
 abbrev pub single : ℕ → Visit → SplitterView
@@ -35,22 +35,13 @@ module _ {S : Type 0} (n m seat : ℕ) (a b : Visit) where
       let Now : ℕ → SplitterView → Type 0 = λ j u. j ≢ other → Shows n seat_of h.stage h.turn j u in
       let now = each_set Now s.views seat (double m a b) (λ _. united)
       (λ j u _ f far. shows_elsewhere n a.number seat j h.seat_of h.stage h.turn u (λ g. far (sym g ∙ theirs.own)) (h.shown j u f)) in
-      record {
-        x = h.x;
-        y = h.y;
-        words_are = h.words_are;
-        stage = h.stage;
-        lawful = h.lawful;
-        turn = h.turn;
-        last = h.last;
-        seat_of = seat_of;
-        held = λ number lt. set_at-cases h.seat_of a.number seat (HoldsAt (Has number) (set (set s.views seat (double m a b)) other (view_of 0 []))) number
-            (λ same. (double m a b, set_else (set s.views seat (double m a b)) other seat (view_of 0 []) (λ z. apart (sym z)) ∙ there_still s.views seat (single m b) e (double m a b), inl (sym same)))
-            (λ away. at_after (Has number) (set s.views seat (double m a b)) other (single m a) (view_of 0 []) e'
-            (⊎_elim (λ same. absurd (away (sym same))) (λ none. none)) (h.seat_of number)
-            (at_after (Has number) s.views seat (single m b) (double m a b) e inr (h.seat_of number) (h.held number lt)));
-        shown = each_set (Shows n seat_of h.stage h.turn) (set s.views seat (double m a b)) other (view_of 0 []) (tt, tt) (λ j u far f. now j u f far);
-      }
+      with_views n s.words s.views (set (set s.views seat (double m a b)) other (view_of 0 [])) h seat_of
+      (λ number lt. set_at-cases h.seat_of a.number seat (HoldsAt (Has number) (set (set s.views seat (double m a b)) other (view_of 0 []))) number
+      (λ same. (double m a b, set_else (set s.views seat (double m a b)) other seat (view_of 0 []) (λ z. apart (sym z)) ∙ there_still s.views seat (single m b) e (double m a b), inl (sym same)))
+      (λ away. at_after (Has number) (set s.views seat (double m a b)) other (single m a) (view_of 0 []) e'
+      (⊎_elim (λ same. absurd (away (sym same))) (λ none. none)) (h.seat_of number)
+      (at_after (Has number) s.views seat (single m b) (double m a b) e inr (h.seat_of number) (h.held number lt))))
+      (each_set (Shows n seat_of h.stage h.turn) (set s.views seat (double m a b)) other (view_of 0 []) (tt, tt) (λ j u far f. now j u f far))
 
   -- a look changes nothing
   pub may_look : (slots word : ℕ) (st : Step S) → Allows {S = S} {V = SplitterView} (KeepsRule n) slots seat ((double m a b), []) word (λ f. f) (Looks st ((double m a b), []))

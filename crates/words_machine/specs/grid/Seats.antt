@@ -9,22 +9,6 @@ use Rattle.words_machine.specs.Ids.{WordsId, EndedRun}
 abbrev pub GridId : Type 0
 GridId = WordsId
 
--- the seats that are still to be dealt: of which grid, and how many were dealt
-pub record DealerId : Type 0 where
-  pub grid : GridId
-  pub dealt : ℕ
-
-abbrev pub dealer_of : GridId → ℕ → DealerId
-dealer_of grid dealt = record { grid = grid; dealt = dealt }
-
--- which seat of which grid it is
-pub record SeatId : Type 0 where
-  pub grid : GridId
-  pub number : ℕ
-
-abbrev pub seat_of : GridId → ℕ → SeatId
-seat_of grid number = record { grid = grid; number = number }
-
 -- a walk that has ended: which grid's, which seat's, at which door; how many walks had begun when it ended, itself among
 -- them; and how many accesses it made
 pub record EndedWalk : Type 0 where

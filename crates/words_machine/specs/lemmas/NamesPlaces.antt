@@ -1,8 +1,7 @@
 -- each word has a place of its own
-use Rattle.std.proofs.Common.{◌≡◌, ◌≢◌, ℕ, zero, suc, ◌+◌, ◌-◌, ◌*◌, ◌%◌, ◌==◌, true, false, cond, subst, ◌^◌, ◌<◌, ◌≤◌, ◌⊎◌, inl, inr, refl, sym, ap, ◌∙◌, arith}
+use Rattle.std.proofs.Common.{◌≡◌, ℕ, ◌+◌, ◌-◌, ◌*◌, ◌%◌, ◌==◌, true, false, subst, ◌<◌, ◌≤◌, ◌⊎◌, inl, inr, sym, ap, arith}
 use Rattle.std.proofs.lemmas.Bool.Decides.{eqb_tells, leb_tells}
 use Rattle.std.proofs.lemmas.Nat.{mul-le}
-use Rattle.model_recursion.specs.Program.{cell_at}
 use Rattle.words_machine.specs.Names.{IsCell, slot_of, place_of, cells}
 use Rattle.model_recursion.specs.Ranges.{IsInstance}
 use Rattle.model_recursion.specs.declared.namer.Cell.{Cell}

@@ -1,6 +1,6 @@
 -- recursive renaming over words is sound
-use Rattle.std.proofs.Common.{◌≡◌, ◌≢◌, ℕ, zero, suc, ◌+◌, ◌*◌, ◌^◌, ◌<◌, ◌≤◌, ◌⊎◌, inl, inr, ◌==◌, ◌||◌, nat_lt, Bool, true, false, cond, is_some, List, [], ◌∷◌, ◌++◌, Option, Some, None, Ok, option_map, refl, sym, ap, subst, ◌∙◌, arith, if◌then◌else◌, ne_eqb}
-use Rattle.std.proofs.lemmas.Bool.Decides.{eqb_tells, leb_tells, Decides-eqb, nat_tests}
+use Rattle.std.proofs.Common.{◌≡◌, ◌≢◌, ℕ, ◌+◌, ◌≤◌, ◌==◌, nat_lt, false, is_some, List, [], ◌∷◌, ◌++◌, Option, Some, None, Ok, option_map, refl, sym, ap, subst, ◌∙◌, arith, ne_eqb}
+use Rattle.std.proofs.lemmas.Bool.Decides.{Decides-eqb, nat_tests}
 use Rattle.std.proofs.lemmas.Nat.{mul-le}
 use Rattle.model_steps.specs.SetAt.{set_at}
 use Rattle.model_steps.specs.declared.access.Access.{Access}
@@ -8,7 +8,6 @@ use Rattle.model_steps.specs.declared.access.Access.TheVariants.{Read, Write, Te
 use Rattle.model_steps.specs.declared.access.Answer.{Answer}
 use Rattle.model_steps.specs.declared.participant.Participant.{Participant}
 use Rattle.model_steps.specs.Calls.{outcome_of, outcome_by, outcome_in, steps_of, steps_by, begun_in, first_of}
-use Rattle.model_steps.specs.Calls.Call.{Began, Stepped}
 use Rattle.model_recursion.specs.Calls.{SeatCall, calls_of, call_of}
 use Rattle.model_recursion.specs.Calls.SeatCall.{Begin, Step}
 use Rattle.model_steps.specs.Machine.{Reaches}
@@ -18,11 +17,11 @@ use Rattle.model_steps.specs.World.{done_unless}
 use Rattle.model_steps.proofs.cited.MachineLemmas.{after_none, call_leads_on}
 use Rattle.model_steps.proofs.cited.SetAtLemmas.{set_at-same, set_at-other, set_at-cases}
 use Rattle.model_steps.proofs.cited.WorldKeeps.{first_of-none}
-use Rattle.model_recursion.specs.Invariant.{StandsAt, members_of}
-use Rattle.model_recursion.specs.Machine.{Naming, naming, Words, word_at, with_word, words_after, answer_to, after_begin, after_step, got_by, begin_refusal, step_refusal}
-use Rattle.model_recursion.specs.Program.{namer_of, namer_steps, next_access, access_at, namer_note, name_at, cell_at, Phase, phase_of}
+use Rattle.model_recursion.specs.Invariant.{members_of}
+use Rattle.model_recursion.specs.Machine.{Naming, naming, Words, word_at, with_word, words_after, answer_to, after_begin, after_step, got_by, begin_refusal}
+use Rattle.model_recursion.specs.Program.{namer_of, namer_steps, next_access, access_at, namer_note, name_at, Phase, phase_of}
 use Rattle.words_machine.specs.WordLaw.{IsSound, IsOnce, IsOwnAccess, GoesOn, one_more, answer_in, program_at, moved}
-use Rattle.words_machine.specs.Names.{IsKnown, IsCell, names_law}
+use Rattle.words_machine.specs.Names.{IsKnown, names_law}
 use Rattle.model_recursion.specs.declared.namer.Cell.{Cell}
 use Rattle.model_recursion.specs.declared.namer.Survey.{Survey}
 use Rattle.model_recursion.specs.Program.Phase.{Entering, Collecting, Over}

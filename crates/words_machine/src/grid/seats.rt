@@ -9,50 +9,10 @@ use model_steps::Place;
 use std::marker::Model;
 
 /// The seats of a grid that are not dealt yet, by rising number.
-#[derive(Drop)]
-pub struct GridDealer {
-    pub(crate) dealer: crate::Dealer<Walker>,
-}
-
-impl Model for GridDealer {
-    ghost use Rattle.words_machine.specs.grid.Seats.{DealerId, dealer_of};
-
-    ghost Value = { DealerId };
-
-    ghost view = { λ d. dealer_of d.dealer.words d.dealer.dealt };
-}
-
-impl GridDealer {
-    /// Returns the number of seats that were dealt.
-    pub fn dealt(&self) -> u64
-        ensures { result ≡ self.now.dealt }
-    {
-        self.dealer.dealt()
-    }
-}
+pub type GridDealer = crate::Dealer<Walker>;
 
 /// A seat that has not entered. `enter` takes it, so no seat enters twice.
-#[derive(Drop)]
-pub struct FreshGridSeat {
-    pub(crate) seat: crate::FreshSeat<Walker>,
-}
-
-impl Model for FreshGridSeat {
-    ghost use Rattle.words_machine.specs.grid.Seats.{SeatId, seat_of};
-
-    ghost Value = { SeatId };
-
-    ghost view = { λ f. seat_of f.seat.words f.seat.number };
-}
-
-impl FreshGridSeat {
-    /// Returns the seat's number, from 0.
-    pub fn number(&self) -> u64
-        ensures { result ≡ self.now.number }
-    {
-        self.seat.number()
-    }
-}
+pub type FreshGridSeat = crate::FreshSeat<Walker>;
 
 /// A seat that has entered, with the door at which its walk stopped.
 #[derive(Drop)]

@@ -3,7 +3,8 @@
 ghost use Rattle.std.specs.Prelude.{◌≡◌, ◌≢◌, ◌<◌, ◌≤◌, ◌+◌, ◌*◌, ◌/◌, IfOk, IfErr, IfSome, IfNone, IsOk, IsSome, Err, ◌⊎◌, ◌↔◌};
 ghost use Rattle.model_splitter.specs.grid.Door.{IsDoorWithin};
 ghost use Rattle.words_machine.specs.grid.Law.{WalkSpec};
-ghost use Rattle.words_machine.specs.grid.Seats.{claim_of, dealer_of, place_of, seat_of};
+ghost use Rattle.words_machine.specs.grid.Seats.{claim_of, place_of};
+ghost use Rattle.words_machine.specs.Ids.{dealer_of, seat_of};
 
 use crate::WordMachine;
 use crate::grid::seats::{EnteredGridSeat, FreshGridSeat, GridClaim, GridDealer};
@@ -47,7 +48,7 @@ impl<A: Allocator + Clone> WordGrid<A> {
             return Err(Refusal::OutOfRange);
         }
         let (machine, dealer) = WordMachine::new(alloc, most)?;
-        Ok((WordGrid { machine }, GridDealer { dealer }))
+        Ok((WordGrid { machine }, dealer))
     }
 }
 
@@ -63,14 +64,13 @@ impl<A: Allocator> WordGrid<A> {
     /// Deals the seat of the least number that was not dealt, or returns `None` if all seats were dealt. The dealer is
     /// of this grid.
     pub fn deal(&self, dealer: &mut GridDealer) -> Option<FreshGridSeat>
-        requires ours { dealer.old.grid ≡ self.now }
-        ensures ours { dealer.new.grid ≡ self.now }
+        requires ours { dealer.old.words ≡ self.now }
+        ensures ours { dealer.new.words ≡ self.now }
         ensures some { IsSome result ↔ (dealer.old.dealt < self.now.most) }
         ensures seat { IfSome result (λ s. (s ≡ seat_of self.now dealer.old.dealt) × (dealer.new.dealt ≡ dealer.old.dealt + 1)) }
         ensures none { IfNone result (dealer.new ≡ dealer.old) }
     {
-        let seat = self.machine.deal(&mut dealer.dealer)?;
-        Some(FreshGridSeat { seat })
+        self.machine.deal(dealer)
     }
 
     /// Makes the walk of a seat of this grid, by reads and writes (Moir and Anderson 1995).
@@ -82,15 +82,15 @@ impl<A: Allocator> WordGrid<A> {
     ///
     /// At most `4b` accesses, where `b` walks had begun when this one ended, whatever the other seats do.
     pub fn enter(&self, fresh: FreshGridSeat) -> EnteredGridSeat
-        requires ours { fresh.grid ≡ self.now }
-        ensures seat { (result.grid ≡ fresh.grid) × (result.number ≡ fresh.number) }
+        requires ours { fresh.words ≡ self.now }
+        ensures seat { (result.grid ≡ fresh.words) × (result.number ≡ fresh.number) }
         ensures law { WalkSpec result }
 
         // If no other walk had begun when it ended, it has the place in the corner, by four accesses.
         ensures alone { result.entered ≡ 1 → (place_of result ≡ 0) × (result.accesses ≡ 4) }
     {
-        let own = self.machine.own_number(&fresh.seat);
-        let seat = self.machine.enter(fresh.seat, own);
+        let own = self.machine.own_number(&fresh);
+        let seat = self.machine.enter(fresh, own);
         EnteredGridSeat { seat }
     }
 
@@ -110,7 +110,7 @@ impl<A: Allocator> WordGrid<A> {
     /// Where `d` seats were dealt, at most `d` walks had begun when this one ended. So its place is below `d(d + 1)/2`,
     /// and its walk made at most `4d` accesses.
     pub fn tally(&self, dealer: &mut GridDealer, entered: &mut EnteredGridSeat)
-        requires dealer { dealer.old.grid ≡ self.now }
+        requires dealer { dealer.old.words ≡ self.now }
         requires entered { entered.old.grid ≡ self.now }
         ensures same { (dealer.new ≡ dealer.old) × (entered.new ≡ entered.old) }
         ensures counted { entered.old.entered ≤ dealer.old.dealt }
@@ -118,7 +118,7 @@ impl<A: Allocator> WordGrid<A> {
         ensures low { place_of entered.old < dealer.old.dealt * (dealer.old.dealt + 1) / 2 }
         ensures at_most { entered.old.accesses ≤ 4 * dealer.old.dealt }
     {
-        self.machine.tally(&mut dealer.dealer, &mut entered.seat);
+        self.machine.tally(dealer, &mut entered.seat);
     }
 
     /// Makes a claim of the place of an entered seat of this grid, which stays as it is.

@@ -1,4 +1,4 @@
-use Rattle.std.proofs.Common.{sym, ap, refl, subst, ◌≡◌, ◌<◌, arith, []}
+use Rattle.std.proofs.Common.{sym, refl, subst, ◌≡◌, ◌<◌, arith, []}
 use Rattle.words_machine.proofs.Common.{Me, SeatView, lone_view, unbegun}
 use Rattle.words_machine.proofs.word_machine.WordMachine.deal.Goals as goal
 

@@ -20,13 +20,13 @@ pub invariant_of-one : goal.invariant_of-one
 invariant_of-one g c =
     let same = c.into_badge.ensures.2 ∙ ap (λ me. me.0 ∷ []) c.look_together-left.ensures.left ∙ sym (ap (λ b. b.views) (sym c.replace.ensures.value) ∙ c.into_seat-left.ensures.2) in
     let still = still_run g.P.WordProgram.law g.met.P.WordProgram.sound.after _ _ _ _ _ _ _ (c.one.invariant.0, c.one.invariant.1) same in
-    (still.0, still.1, c.one.invariant.2 ∙ sym (ap accesses_in same), c.one.invariant.3 ∙ sym (ap (λ vs. g.P.WordProgram.end_of (program_in g.P.WordProgram.law c.one.inside.number c.one.inside.identity vs)) same))
+    (still.0, still.1, c.one.invariant.2 ∙ sym (ap accesses_in same), c.one.invariant.3 ∙ sym (ap (λ vs. program_in g.P.WordProgram.law c.one.inside.number c.one.inside.identity vs) same))
 
 pub invariant_of-other : goal.invariant_of-other
 invariant_of-other g c =
     let same = c.into_badge-2.ensures.2 ∙ ap (λ me. me.0 ∷ []) c.look_together-left.ensures.right ∙ sym (ap (λ b. b.views) (sym c.replace-2.ensures.value) ∙ c.into_seat-right.ensures.2) in
     let still = still_run g.P.WordProgram.law g.met.P.WordProgram.sound.after _ _ _ _ _ _ _ (c.other.invariant.0, c.other.invariant.1) same in
-    (still.0, still.1, c.other.invariant.2 ∙ sym (ap accesses_in same), c.other.invariant.3 ∙ sym (ap (λ vs. g.P.WordProgram.end_of (program_in g.P.WordProgram.law c.other.inside.number c.other.inside.identity vs)) same))
+    (still.0, still.1, c.other.invariant.2 ∙ sym (ap accesses_in same), c.other.invariant.3 ∙ sym (ap (λ vs. program_in g.P.WordProgram.law c.other.inside.number c.other.inside.identity vs) same))
 
 pub returns-clause-met : goal.returns-clause-met
 returns-clause-met g c =

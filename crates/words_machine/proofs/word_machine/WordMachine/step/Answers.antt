@@ -1,4 +1,4 @@
-use Rattle.std.proofs.Common.{ap, sym, subst, ◌≡◌, ◌<◌, ◌≤◌, ◌+◌, ◌∙◌, [], ℕ, arith}
+use Rattle.std.proofs.Common.{ap, sym, subst, ◌≡◌, ◌<◌, ◌≤◌, ◌+◌, ◌∙◌, ℕ, arith}
 use Rattle.words_machine.specs.Ids.{RunningId}
 use Rattle.words_machine.proofs.Common.{WordsId, Me, SeatView, Stands, accesses_in}
 use Rattle.words_machine.proofs.Meeting.{told_run, count_made}
@@ -12,7 +12,7 @@ invariant_of-result g c =
     let ended = has_ended g.P.WordProgram.steps law g.met.P.WordProgram.sound _ _ _ _ _ _ _ after c.in-Some.outcome (ended_with _ _ (sym c.outcome.ensures ∙ c.in-Some.is)) in
     let made = told_run law g.met.P.WordProgram.sound.after _ _ _ _ _ _ _ _ ended c.into_badge.ensures.2 in
     let counted : c.running.inside.accesses + 1 ≡ accesses_in c.step-note.new.seat.me = (let before = c.running.invariant.1 in let one = after.one_more in omega arith) in
-    (made.1, made.2, counted ∙ count_made law g.met.P.WordProgram.sound.after _ _ _ _ _ _ _ ended c.into_badge.ensures.2, c.end.ensures ∙ ap g.P.WordProgram.end_of (sym made.0))
+    (made.1, made.2, counted ∙ count_made law g.met.P.WordProgram.sound.after _ _ _ _ _ _ _ ended c.into_badge.ensures.2, sym made.0)
 
 pub returns-in-Some-clause-law : goal.returns-in-Some-clause-law
 returns-in-Some-clause-law g c =

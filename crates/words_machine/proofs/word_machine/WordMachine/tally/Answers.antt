@@ -20,7 +20,7 @@ pub invariant_of-entered : goal.invariant_of-entered
 invariant_of-entered g c =
     let same = c.into_badge.ensures.2 ∙ ap (λ me. me.0 ∷ []) c.look_together-left.ensures.left ∙ sym (ap (λ b. b.views) (sym c.replace.ensures.value) ∙ c.into_seat-left.ensures.2) in
     let still = still_run g.P.WordProgram.law g.met.P.WordProgram.sound.after _ _ _ _ _ _ _ (c.entered.invariant.0, c.entered.invariant.1) same in
-    (still.0, still.1, c.entered.invariant.2 ∙ sym (ap accesses_in same), c.entered.invariant.3 ∙ sym (ap (λ vs. g.P.WordProgram.end_of (program_in g.P.WordProgram.law c.entered.inside.number c.entered.inside.identity vs)) same))
+    (still.0, still.1, c.entered.invariant.2 ∙ sym (ap accesses_in same), c.entered.invariant.3 ∙ sym (ap (λ vs. program_in g.P.WordProgram.law c.entered.inside.number c.entered.inside.identity vs) same))
 
 pub returns-clause-counted : goal.returns-clause-counted
 returns-clause-counted g c =
