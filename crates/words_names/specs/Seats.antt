@@ -4,7 +4,7 @@ use Rattle.std.specs.List.{list_any}
 use Rattle.model_steps.specs.declared.refusal.Refusal.{Refusal}
 use Rattle.model_steps.specs.declared.refusal.Refusal.TheVariants.{ZeroIdentity, AlreadyBegun, Full}
 use Rattle.model_recursion.specs.declared.namer.Namer.{Namer}
-use Rattle.words_machine.specs.Ids.{WordsId, EndedRun, RunningId}
+use Rattle.words_machine.specs.Ids.{WordsId, EndedRun}
 
 -- which names they are, and for how many seats: which words they are
 abbrev pub NamesId : Type 0
@@ -44,16 +44,6 @@ pub record SeatId : Type 0 where
 
 abbrev pub seat_of : NamesId → ℕ → ℕ → SeatId
 seat_of names number identity = record { names = names; number = number; identity = identity }
-
--- a seat that is being renamed: of which names, which seat, for which identity, and how many accesses it has made
-pub record RenamingId : Type 0 where
-  pub names : NamesId
-  pub number : ℕ
-  pub identity : ℕ
-  pub accesses : ℕ
-
-abbrev pub renaming_by : RunningId Namer → RenamingId
-renaming_by s = record { names = s.words; number = s.number; identity = s.identity; accesses = s.accesses }
 
 -- a seat that was renamed: of which names, which seat, for which identity, and its name; how many had begun when it got the name,
 -- itself among them; and how many accesses it made

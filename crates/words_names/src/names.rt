@@ -109,12 +109,11 @@ impl<A: Allocator> Names<A> {
     /// Returns a seat of these names before its first access, to make its accesses one at a time.
     pub fn begin(&self, fresh: FreshNameSeat) -> Renaming
         requires ours { fresh.names ≡ self.now }
-        ensures seat { (result.names ≡ fresh.names) × (result.number ≡ fresh.number) × (result.identity ≡ fresh.identity) }
+        ensures seat { (result.words ≡ fresh.names) × (result.number ≡ fresh.number) × (result.identity ≡ fresh.identity) }
         ensures first { result.accesses ≡ 0 }
     {
         let FreshNameSeat { identity, seat } = fresh;
-        let seat = self.machine.begin(seat, identity);
-        Renaming { seat }
+        self.machine.begin(seat, identity)
     }
 
     /// Makes one access of a seat of these names, whatever the other seats do. Returns the seat that was renamed by it, or
@@ -124,18 +123,17 @@ impl<A: Allocator> Names<A> {
     ///
     /// `Err` is no fault: it is the seat that goes on.
     pub fn step(&self, renaming: Renaming) -> Result<Renamed, Renaming>
-        requires ours { renaming.names ≡ self.now }
-        ensures renamed { IfOk result (λ e. (e.names ≡ renaming.names) × (e.number ≡ renaming.number)
+        requires ours { renaming.words ≡ self.now }
+        ensures renamed { IfOk result (λ e. (e.names ≡ renaming.words) × (e.number ≡ renaming.number)
             × (e.identity ≡ renaming.identity) × (e.accesses ≡ renaming.accesses + 1)) }
         ensures law { IfOk result NameSpec }
-        ensures goes_on { IfErr result (λ s. (s.names ≡ renaming.names) × (s.number ≡ renaming.number)
+        ensures goes_on { IfErr result (λ s. (s.words ≡ renaming.words) × (s.number ≡ renaming.number)
             × (s.identity ≡ renaming.identity) × (s.accesses ≡ renaming.accesses + 1)) }
         ensures few { IfErr result (λ s. s.accesses ≤ self.now.most * (self.now.most + 1)) }
     {
-        let Renaming { seat } = renaming;
-        match self.machine.step(seat) {
+        match self.machine.step(renaming) {
             Ok(seat) => Ok(Renamed { seat }),
-            Err(seat) => Err(Renaming { seat }),
+            Err(renaming) => Err(renaming),
         }
     }
 

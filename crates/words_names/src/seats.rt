@@ -72,41 +72,7 @@ impl FreshNameSeat {
 }
 
 /// A seat that is being renamed, one access at a time. `step` takes it.
-#[derive(Drop)]
-pub struct Renaming {
-    pub(crate) seat: words_machine::RunningSeat<Namer>,
-}
-
-impl Model for Renaming {
-    ghost use Rattle.words_names.specs.Seats.{RenamingId, renaming_by};
-
-    ghost Value = { RenamingId };
-
-    ghost view = { λ e. renaming_by e.seat };
-}
-
-impl Renaming {
-    /// Returns the seat's number, from 0.
-    pub fn number(&self) -> u64
-        ensures { result ≡ self.now.number }
-    {
-        self.seat.number()
-    }
-
-    /// Returns the identity that the seat was dealt to.
-    pub fn identity(&self) -> u64
-        ensures { result ≡ self.now.identity }
-    {
-        self.seat.identity()
-    }
-
-    /// Returns how many accesses of words it has made.
-    pub fn accesses(&self) -> u64
-        ensures { result ≡ self.now.accesses }
-    {
-        self.seat.accesses()
-    }
-}
+pub type Renaming = words_machine::RunningSeat<Namer>;
 
 /// A seat that was renamed.
 #[derive(Drop)]
