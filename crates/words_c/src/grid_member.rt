@@ -17,8 +17,8 @@ pub struct GridMember {
     pub(crate) dealer: Option<GridDealer>,
     pub(crate) seat: Option<FreshGridSeat>,
     pub(crate) entered: Option<EnteredGridSeat>,
-    ghost dealt: { IfSome dealer (λ d. d.grid ≡ arc_value grid) } by { Prim.hlevel props },
-    ghost ours: { IfSome seat (λ s. s.grid ≡ arc_value grid) } by { Prim.hlevel props },
+    ghost dealt: { IfSome dealer (λ d. d.words ≡ arc_value grid) } by { Prim.hlevel props },
+    ghost ours: { IfSome seat (λ s. s.words ≡ arc_value grid) } by { Prim.hlevel props },
 }
 
 impl GridMember {
@@ -26,7 +26,7 @@ impl GridMember {
     pub fn deal(&mut self) -> Option<FreshGridSeat>
         ensures grid { arc_value self.new.grid ≡ arc_value self.old.grid }
         ensures same { (self.new.seat ≡ self.old.seat) × (self.new.entered ≡ self.old.entered) }
-        ensures ours { IfSome result (λ s. s.grid ≡ arc_value self.old.grid) }
+        ensures ours { IfSome result (λ s. s.words ≡ arc_value self.old.grid) }
         ensures dealt { IfSome result (λ s. IsSomeAnd self.old.dealer (λ d. IsSomeAnd self.new.dealer (λ e. IsNextOf d e s))) }
         ensures due { IfNone result ((self.old.dealer ≡ None) ⊎ IsSomeAnd self.old.dealer (λ d. (arc_value self.old.grid).most ≤ d.dealt)) }
         ensures none { IfNone result (self.new.dealer ≡ self.old.dealer) }
