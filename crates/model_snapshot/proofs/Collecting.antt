@@ -109,6 +109,33 @@ collecting_new b last past place who own Ahead Upcoming ahead = record {
   differing = λ e. absurd (cc);
 }
 
+-- a scan goes on where no fewer have places, and what was ahead was empty or is ahead
+pub still_collecting : (b b' last : ℕ) (past : ℕ → ℕ → Option Record) (place place' : ℕ → Option ℕ) (who who' : ℕ → ℕ) (own since collects : ℕ) (Ahead Ahead' Upcoming Upcoming' : ℕ → Type 0) (f d : Bool) (ss : List Sighting) (c : IsCollecting b last past place who own since collects Ahead Upcoming f d ss) →
+    ((g : ℕ → Bool) → count_of who place b g ≤ count_of who' place' b' g) → ((x : ℕ) → Ahead x → (past c.begun x ≡ None) ⊎ Ahead' x) → ((x : ℕ) → Upcoming' x → Upcoming x) →
+    IsCollecting b' last past place' who' own since collects Ahead' Upcoming' f d ss
+still_collecting b b' last past place place' who who' own since collects Ahead Ahead' Upcoming Upcoming' f d ss c count still fewer = record {
+  begun = c.begun;
+  seen = c.seen;
+  since_begun = c.since_begun;
+  begun_last = c.begun_last;
+  first = c.first;
+  low = c.low;
+  high = c.high;
+  changed_unread = c.changed_unread;
+  changed_read = c.changed_read;
+  settled = c.settled;
+  now = c.now;
+  unread = λ x e. elim (c.unread x e) [ inl none ↦ inl none | inr k ↦ still x k ];
+  read = c.read;
+  upcoming = λ x u. c.upcoming x (fewer x u);
+  met = c.met;
+  known = (let k = count (is_known ss) in let was = c.known in omega arith);
+  own_kept = c.own_kept;
+  own_same = c.own_same;
+  counted = (let k = count (changed_in ss) in let was = c.counted in omega arith);
+  differing = λ e. let k = count (changed_in ss) in let was = c.differing e in omega arith;
+}
+
 module _ (b last : ℕ) (past : ℕ → ℕ → Option Record) (moment : ℕ → ℕ → Option ℕ) (place : ℕ → Option ℕ) (who : ℕ → ℕ) (h : IsHistory last past moment place) (roll : IsRoll who place b) (own since collects : ℕ) (Ahead Upcoming : ℕ → Type 0) (f d : Bool) (ss : List Sighting) (c : IsCollecting b last past place who own since collects Ahead Upcoming f d ss) where
   -- one's own segment is not seen to change
   pub few_collects : (p : ℕ) → place p ≡ Some own → collects ≤ b
@@ -146,31 +173,9 @@ module _ (b last : ℕ) (past : ℕ → ℕ → Option Record) (moment : ℕ →
 
   -- a read that shows no record is passed
   pub pass : (Ahead' Upcoming' : ℕ → Type 0) → ((x : ℕ) → Ahead x → (past last x ≡ None) ⊎ Ahead' x) → ((x : ℕ) → Upcoming' x → Upcoming x) → IsCollecting b last past place who own since collects Ahead' Upcoming' f d ss
-  pass Ahead' Upcoming' still fewer = record {
-    begun = c.begun;
-    seen = c.seen;
-    since_begun = c.since_begun;
-    begun_last = c.begun_last;
-    first = c.first;
-    low = c.low;
-    high = c.high;
-    changed_unread = c.changed_unread;
-    changed_read = c.changed_read;
-    settled = c.settled;
-    now = c.now;
-    unread = λ x e. elim (c.unread x e) [
-      | inl none ↦ inl none
-      | inr k ↦ elim (still x k) [ inl none ↦ inl (was_empty x c.begun c.begun_last none) | inr on ↦ inr on ]
-    ];
-    read = c.read;
-    upcoming = λ x u. c.upcoming x (fewer x u);
-    met = c.met;
-    known = c.known;
-    own_kept = c.own_kept;
-    own_same = c.own_same;
-    counted = c.counted;
-    differing = c.differing;
-  }
+  pass Ahead' Upcoming' still fewer =
+      still_collecting b b last past place place who who own since collects Ahead Ahead' Upcoming Upcoming' f d ss c (λ g. omega arith)
+          (λ x k. elim (still x k) [ inl none ↦ inl (was_empty x c.begun c.begun_last none) | inr on ↦ inr on ]) fewer
 
   -- the second change of a segment: its record holds a moment of this scan
   pub borrowed : (x : ℕ) (r : Record) → past last x ≡ Some r → c.seen x ≡ None → f ≡ false → (sighting_of x ss).before ≢ r.number → changed_in ss x ≡ true → (i : ℕ) × (since ≤ i) × (i ≤ last) × IsMoment r.view (moment i)
@@ -517,34 +522,9 @@ pub collecting_joined : (b b' last : ℕ) (past : ℕ → ℕ → Option Record)
     b ≤ b' → ((i : ℕ) → i < b → who' i ≡ who i) → place p ≡ None → ((x i : ℕ) → new ≡ Some x → i ≤ last → past i x ≡ None) → ((x : ℕ) → Ahead x → Ahead' x) →
     IsCollecting b last past place who own since collects Ahead Upcoming f d ss → IsCollecting b' last past (set_at place p new) who' own since collects Ahead' Upcoming f d ss
 collecting_joined b b' last past place who who' p new own since collects Ahead Ahead' Upcoming f d ss more same absent empty still c =
-    let unseen : (x : ℕ) → new ≡ Some x → c.seen x ≡ None = λ x e. elim (c.seen x) as (λ o. c.seen x ≡ o → o ≡ None) [
-      | None ↦ λ _. refl
-      | Some r ↦ λ some. absurd (let rd = c.read x r some in let k : Some r ≡ None = sym rd.is ∙ empty x rd.index e rd.no_later in cc)
-    ] refl in
     let kept : (q x : ℕ) → place q ≡ Some x → set_at place p new q ≡ Some x = λ q x e. elim (eqb_tells q p) [
       | inl u ↦ absurd (let k : None ≡ Some x = sym absent ∙ ap place (sym u.1) ∙ e in cc)
       | inr u ↦ rw u.0 e
     ] in
-    let count : (g : ℕ → Bool) → count_of who place b g ≤ count_of who' (set_at place p new) b' g = λ g. count_joined who who' place (set_at place p new) b b' g more same kept in
-    record {
-      begun = c.begun;
-      seen = c.seen;
-      since_begun = c.since_begun;
-      begun_last = c.begun_last;
-      first = c.first;
-      low = c.low;
-      high = c.high;
-      changed_unread = c.changed_unread;
-      changed_read = c.changed_read;
-      settled = c.settled;
-      now = c.now;
-      unread = λ x e. elim (c.unread x e) [ inl k ↦ inl k | inr k ↦ inr (still x k) ];
-      read = c.read;
-      upcoming = c.upcoming;
-      met = c.met;
-      known = (let k = count (is_known ss) in let was = c.known in omega arith);
-      own_kept = c.own_kept;
-      own_same = c.own_same;
-      counted = (let k = count (changed_in ss) in let was = c.counted in omega arith);
-      differing = λ e. let k = count (changed_in ss) in let was = c.differing e in omega arith;
-    }
+    still_collecting b b' last past place (set_at place p new) who who' own since collects Ahead Ahead' Upcoming Upcoming f d ss c
+        (λ g. count_joined who who' place (set_at place p new) b b' g more same kept) (λ x k. inr (still x k)) (λ x u. u)
