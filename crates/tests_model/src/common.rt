@@ -1,5 +1,7 @@
 //! What the integration tests share.
 
+ghost use Rattle.std.specs.Prelude.{◌≤◌};
+
 use model_steps::{Refusal, View};
 use std::process::Abort;
 
@@ -26,6 +28,18 @@ pub fn lent<W: Drop, F: FnOnce(&mut W) -> bool + Drop>(
 /// Stops an integration test unless this case of it, named by a size or a row, is so.
 pub fn holds(rt: &impl Abort, case: usize, is_so: bool) {
     assert!(rt; is_so, "case {case}");
+}
+
+/// How many threads race in a round: `most` of them in each tenth, and in another from `least` on up to five more.
+pub fn racing(round: usize, least: u64, most: u64) -> u64
+    requires some { (1 ≤ least) × (1 ≤ most) }
+    ensures { 1 ≤ result }
+{
+    if round % 10 == 0 {
+        most
+    } else {
+        least.saturating_add(round as u64 % 6)
+    }
 }
 
 /// The view of these pairs, put in one after the other, as far as there is room.

@@ -2,7 +2,7 @@
 
 ghost use Rattle.std.specs.Prelude.{◌≡◌};
 
-use crate::common::same;
+use crate::common::{racing, same};
 use model_steps::{Place, Refusal};
 use std::alloc::{AllocError, Global};
 use std::thread::{self, Threads};
@@ -16,8 +16,8 @@ fn places_of_rows(rows: u64) -> Place {
 
 /// Enters with the next seat: the depth and the column of its door, its place, and its number.
 fn walk_next(grid: &WordGrid<Global>, dealer: &mut GridDealer) -> Option<(u64, u8, Place, u64)>
-    requires ours { dealer.old.grid ≡ grid.now }
-    ensures ours { dealer.new.grid ≡ grid.now }
+    requires ours { dealer.old.words ≡ grid.now }
+    ensures ours { dealer.new.words ≡ grid.now }
 {
     let fresh = grid.deal(dealer)?;
     let mut entered = grid.enter(fresh);
@@ -29,7 +29,7 @@ fn walk_next(grid: &WordGrid<Global>, dealer: &mut GridDealer) -> Option<(u64, u
 
 /// Whether each seat in turn has the place at the right end of its row, and there are as many as the grid says.
 fn go_right(grid: &WordGrid<Global>, mut dealer: GridDealer) -> bool
-    requires ours { dealer.grid ≡ grid.now }
+    requires ours { dealer.words ≡ grid.now }
 {
     for before in 0..grid.most() {
         let due = (before, 0, places_of_rows(before), before);
@@ -68,7 +68,7 @@ fn each_that_comes_later_goes_right(rt: HostRuntime) {
 struct Visitor<'a> {
     grid: &'a WordGrid<Global>,
     seat: FreshGridSeat,
-    ghost ours: { seat.grid ≡ grid.now },
+    ghost ours: { seat.words ≡ grid.now },
 }
 
 /// The place at which a walk ends.
@@ -84,7 +84,7 @@ fn visitors_of<'a>(
     mut dealer: GridDealer,
     count: u64,
 ) -> Result<Vec<Visitor<'a>, Global>, AllocError>
-    requires ours { dealer.grid ≡ grid.now }
+    requires ours { dealer.words ≡ grid.now }
 {
     let mut visitors = Vec::new(alloc);
     for _ in 0..count {
@@ -117,11 +117,7 @@ fn have_places<R: Threads + Sync>(rt: &R, alloc: Global, count: u64) -> Result<b
 #[test]
 fn threads_have_places_of_their_own(rt: HostRuntime) {
     for round in 0..1000usize {
-        let count = if round % 10 == 0 {
-            64
-        } else {
-            2 + round as u64 % 6
-        };
+        let count = racing(round, 2, 64);
         same(&rt, round, have_places(&rt, rt.alloc(), count), Ok(true));
     }
 }

@@ -2,7 +2,7 @@
 
 ghost use Rattle.std.specs.Prelude.{◌≡◌, ◌≤◌};
 
-use crate::common::same;
+use crate::common::{racing, same};
 use model_splitter::{Visitor, Way};
 use model_steps::Refusal;
 use std::alloc::{AllocError, Global};
@@ -73,11 +73,7 @@ fn split<R: Threads + Sync>(rt: &R, alloc: Global, count: u64) -> Result<bool, R
 #[test]
 fn threads_are_split(rt: HostRuntime) {
     for round in 0..1000usize {
-        let count = if round % 10 == 0 {
-            16
-        } else {
-            1 + round as u64 % 6
-        };
+        let count = racing(round, 1, 16);
         same(&rt, round, split(&rt, rt.alloc(), count), Ok(true));
     }
 }

@@ -24,7 +24,7 @@ const WORDS: usize = 16 * 32 * 32;
 struct Runner<'a> {
     names: &'a Names<Global>,
     renaming: Renaming,
-    ghost ours: { renaming.names ≡ names.now },
+    ghost ours: { renaming.words ≡ names.now },
 }
 
 /// A seat with its names, which is renamed by a thread.
