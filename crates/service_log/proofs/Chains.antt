@@ -34,6 +34,10 @@ adds_once first between last at batch same adds = record {
 pub adds_none : (first last : ℕ → List ℕ → Type 0) (at : ℕ) (batch : List ℕ) → Same first last → Adds first at batch last
 adds_none first last at batch same = record { keeps = same.keeps; only = λ place entry h. inl (same.only place entry h) }
 
+-- nothing was written, and so a batch at most once
+pub none_once : (stands : ℕ → List ℕ → Type 0) (batch : List ℕ) → AddsOnce stands batch stands
+none_once stands batch = record { at = 0; adds = adds_none stands stands 0 batch (same_self stands) }
+
 -- what failed did not answer
 pub not_done : (cause : Cause) → Err cause ≢ Ok Answered
 not_done cause e = cc e
@@ -68,6 +72,10 @@ stands_append stands place (e ∷ es) fs h g =
 -- it is behind now just where it was not
 pub turned : {M : Type 0} (old new : ReplicaState M) (behind : Bool) → old.behind ≡ behind → new ≡ record old { behind = not behind } → new ≡ record old { behind = not old.behind }
 turned {M = M} old new behind was is = subst (λ (b : Bool). new ≡ record old { behind = not b }) (sym was) is
+
+-- a replica that is well is not poisoned, in whatever way it is seen
+pub well_not : {M A : Type 0} (inside seen : ReplicaState M) → inside ≡ seen → inside.poisoned ≡ false → seen.poisoned ≡ true → A
+well_not {M = M} inside seen is well was = let bad : false ≡ true = sym well ∙ (ap (λ (r : ReplicaState M). r.poisoned) is ∙ was) in absurd cc
 
 module _ {M R : Type 0} (applies : M → List ℕ → R → M → Type 0) where
   -- entries that lead on behind others

@@ -1,9 +1,10 @@
 -- Replicas that share one log, of which one takes a step.
-use Rattle.std.proofs.Common.{◌≡◌, Bool, true, false, cond, ℕ, zero, suc, ◌+◌, ◌-◌, ◌≤◌, List, [], ◌∷◌, ◌++◌, length, Some, None, slice_get, slice_set, get_or, ◌⊎◌, inl, inr, refl, ap, sym, subst, ◌∙◌, arith, append-nil, add-zero, add-one, append_assoc, length-append}
+use Rattle.std.proofs.Common.{◌≡◌, Bool, true, false, cond, ℕ, zero, suc, ◌+◌, ◌-◌, ◌<◌, ◌≤◌, ◌≢◌, List, [], ◌∷◌, ◌++◌, length, Some, None, slice_get, slice_set, get_or, ◌⊎◌, inl, inr, refl, ap, sym, subst, ◌∙◌, arith, append-nil, add-zero, add-one, append_assoc, length-append}
 use mathlib.Core.List.{IsPrefix}
 use Rattle.std.specs.List.{All}
 use Rattle.std.proofs.lemmas.List.Elements.{All-append, All-cons, All-nil}
-use Rattle.service_log.specs.Groups.{IsDetermined, IsDueIn, IsOneHistory, Reported}
+use Rattle.service_log.specs.GroupState.{GroupState}
+use Rattle.service_log.specs.Groups.{IsDetermined, IsDueIn, IsOneHistory, Reported, StaysOneHistory, TellsOneMore}
 use Rattle.service_log.specs.Places.{Adds, stands_in}
 use Rattle.service_log.specs.Replicas.{HasApplied, IsAnswered, IsReplica, Leads, StandsFrom}
 use Rattle.service_log.specs.ReplicaState.{ReplicaState}
@@ -152,6 +153,37 @@ module _ {M R : Type 0} (applies : M → List ℕ → R → M → Type 0) (start
   pushed true log replicas now added new is reported h =
       subst (λ (rs : List (ReplicaState M)). IsOneHistory applies start log rs reported) (sym (is ∙ ap (λ r. replicas ++ r ∷ []) new)) (joined log replicas reported h)
   pushed false log replicas now added new is reported h = subst (λ (rs : List (ReplicaState M)). IsOneHistory applies start log rs reported) (sym is) h
+
+-- a group that another group is, seen in another way, of which one replica took a step
+module _ {M : Type 0} {inside seen : GroupState M} (is : inside ≡ seen) where
+  pub grown : (new : List (List ℕ)) (at : ℕ) (batch : List ℕ) → Adds (stands_in inside.log) at batch (stands_in new) → (new ≡ seen.log) ⊎ (new ≡ seen.log ++ batch ∷ [])
+  grown new at batch adds = subst (λ (s : GroupState M). (new ≡ s.log) ⊎ (new ≡ s.log ++ batch ∷ [])) is (added_log inside.log new at batch adds)
+
+  pub beside : (at : ℕ) (one : ReplicaState M) (other : ℕ) → other ≢ at → slice_get (slice_set inside.replicas at one) other ≡ slice_get seen.replicas other
+  beside at one other differ = subst (λ (s : GroupState M). slice_get (slice_set inside.replicas at one) other ≡ slice_get s.replicas other) is (others_stay inside.replicas at one other differ)
+
+  module _ {R : Type 0} (applies : M → List ℕ → R → M → Type 0) (start : M) (new : List (List ℕ)) (keeps : (place : ℕ) (entry : List ℕ) → stands_in inside.log place entry → stands_in new place entry)
+      (at : ℕ) (within : at < length seen.replicas) (was now : ReplicaState M) (there : was ≡ get_or inside.replicas at was)
+      (follows : IsReplica applies (stands_in inside.log) start was → IsReplica applies (stands_in new) start now) where
+    -- it was led from the start, as all were
+    was_led : All (IsReplica applies (stands_in inside.log) start) inside.replicas → IsReplica applies (stands_in inside.log) start was
+    was_led all =
+        let P : ReplicaState M → Type 0 = IsReplica applies (stands_in inside.log) start in
+        subst P (sym there) (all at was (subst (λ (s : GroupState M). at < length s.replicas) (sym is) within))
+
+    goes_on : (reported : List (Reported R)) → IsOneHistory applies start inside.log inside.replicas reported → IsOneHistory applies start new (slice_set inside.replicas at now) reported
+    goes_on reported h = history_after applies start inside.log new keeps inside.replicas at now (follows (was_led h.prefixes)) reported h
+
+    -- so the group stays one history
+    pub stays : StaysOneHistory applies start seen (record { log = new; replicas = slice_set inside.replicas at now })
+    stays = subst (λ (s : GroupState M). StaysOneHistory applies start s (record { log = new; replicas = slice_set inside.replicas at now })) is goes_on
+
+    -- and is one with the replies to a batch that was answered
+    pub tells : (batch : List ℕ) (replies : R) → IsAnswered applies (stands_in new) was batch now replies → TellsOneMore applies start seen (record { log = new; replicas = slice_set inside.replicas at now }) batch replies
+    tells batch replies so =
+        subst (λ (s : GroupState M). TellsOneMore applies start s (record { log = new; replicas = slice_set inside.replicas at now }) batch replies) is (λ reported h.
+        history_reported applies start new (slice_set inside.replicas at now) reported (record { batch = batch; replies = replies }) (goes_on reported h)
+        (due_there applies start new was now batch replies (still applies (stands_in inside.log) (stands_in new) keeps 0 start was (was_led h.prefixes) so.was_well) so))
 
 -- prefixes of one list, of one length, are the same
 same_prefix : (es fs log : List (List ℕ)) → IsPrefix es log → IsPrefix fs log → length es ≡ length fs → es ≡ fs

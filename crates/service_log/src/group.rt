@@ -71,7 +71,8 @@ impl<M: Machine + Drop> Group<M> {
     /// `AllocError`: an allocation failed. Nothing has changed.
     pub fn join(&mut self, machine: M) -> Result<(), AllocError>
         ensures log { self.new.log ≡ self.old.log }
-        ensures joined { OnOk result (self.new.replicas ≡ self.old.replicas ++ record { machine = machine; place = 0; poisoned = false; behind = false } ∷ []) }
+        ensures joined { OnOk result (self.new.replicas ≡
+            self.old.replicas ++ record { machine = machine; place = 0; poisoned = false; behind = false } ∷ []) }
         ensures unchanged_on_error { OnErr result (self.new.replicas ≡ self.old.replicas) }
         ensures history { StaysOneHistory M.applies machine self.old self.new }
     {

@@ -183,12 +183,15 @@ impl<M: Machine> Replica<M> {
         Ok(Step::Answered)
     }
 
-    // Applies the entry at the next place. Returns false if the place is empty or past the end of the log.
+    // Applies the entry at the next place, and drops its replies. Returns false if the place is empty or past the end of
+    // the log.
     fn pass<S: Store>(&mut self, store: &mut S, replies: &mut M::Replies) -> Result<bool, Cause>
         requires well { self.old.poisoned ≡ false }
+        requires silent { M.silent replies.old }
         ensures passed { result ≡ Ok true → OneMore M.applies (S.stands store.new) self.old self.new }
         ensures nothing { result ≡ Ok false → self.new ≡ record self.old { behind = self.new.behind } }
         ensures missed { result ≡ Ok false → (MOST_PLACES ≤ self.old.place) ⊎ S.lacks store.new self.old.place }
+        ensures silent { M.silent replies.new }
         ensures fault { IfErr result (λ cause. FaultLeaves self.old cause self.new) }
         ensures cause { IfErr result (MayCause S.fails) }
         ensures same { Same (S.stands store.old) (S.stands store.new) }
@@ -196,7 +199,9 @@ impl<M: Machine> Replica<M> {
         if self.place >= MOST_PLACES {
             return Ok(false);
         }
-        Ok(self.follow(store, &[], replies)? != Step::Nothing)
+        let step = self.follow(store, &[], replies);
+        M::forget(replies);
+        Ok(step? != Step::Nothing)
     }
 
     // Makes one step for a batch as `step` does, and leaves any replies.
@@ -328,36 +333,6 @@ impl<M: Machine> Replica<M> {
         Err(ServeFault::Unknown(Cause::Busy))
     }
 
-    // Applies entries of the log as `catch_up` does, and leaves any replies.
-    fn pass_all<S: Store>(
-        &mut self,
-        store: &mut S,
-        most: u64,
-        replies: &mut M::Replies,
-    ) -> Result<u64, Cause>
-        ensures count { IfOk result (λ n. self.new.place ≡ self.old.place + n) }
-        ensures most { IfOk result (λ n. n ≤ most) }
-        ensures stopped { IfOk result (λ n. n < most → (MOST_PLACES ≤ self.new.place) ⊎ S.lacks store.new self.new.place) }
-        ensures fault { IfErr result (λ cause. EndsBy self.old cause self.new) }
-        ensures well { OnOk result (self.new.poisoned ≡ false) }
-        ensures poisoned { self.old.poisoned ≡ true → (result ≡ Err Poisoned) × (self.new ≡ self.old) }
-        ensures not_busy { result ≢ Err Busy }
-        ensures goes_on { self.new.poisoned ≡ false → GoesOn M.applies (S.stands store.new) self.old self.new }
-        ensures same { Same (S.stands store.old) (S.stands store.new) }
-        ensures cause { IfErr result (MayCause S.fails) }
-    {
-        if self.poisoned {
-            return Err(Cause::Poisoned);
-        }
-        for passed in 0..most {
-            let stood = self.pass(store, replies)?;
-            if !stood {
-                return Ok(passed);
-            }
-        }
-        Ok(most)
-    }
-
     /// Applies the next entries of the log, at most `most`, and returns how many they were. It drops their replies.
     ///
     /// It applies fewer than `most` only if the store reports the next place as empty, or at the end of the log.
@@ -390,8 +365,16 @@ impl<M: Machine> Replica<M> {
         ensures same { Same (S.stands store.old) (S.stands store.new) }
         ensures cause { IfErr result (MayCause S.fails) }
     {
-        let result = self.pass_all(store, most, replies);
         M::forget(replies);
-        result
+        if self.poisoned {
+            return Err(Cause::Poisoned);
+        }
+        for passed in 0..most {
+            let stood = self.pass(store, replies)?;
+            if !stood {
+                return Ok(passed);
+            }
+        }
+        Ok(most)
     }
 }

@@ -1,60 +1,24 @@
 -- A replica's step, seen by the group.
-use Rattle.std.proofs.Common.{◌≡◌, ◌≢◌, ℕ, List, ◌++◌, [], ◌∷◌, ◌<◌, length, slice_get, slice_set, subst, sym, ◌⊎◌}
-use Rattle.std.specs.List.{All}
-use Rattle.service_log.specs.GroupState.{GroupState}
 use Rattle.service_log.specs.Places.{stands_in}
-use Rattle.service_log.specs.Replicas.{HasApplied, IsApplied, IsReplica}
-use Rattle.service_log.specs.ReplicaState.{ReplicaState}
-use Rattle.service_log.specs.Groups.{IsOneHistory, Reported}
-use Rattle.service_log.proofs.Chains.{answered, none_goes_on, still}
-use Rattle.service_log.proofs.Shared.{added_log, due_there, history_after, history_reported, others_stay}
+use Rattle.service_log.proofs.Chains.{answered, none_goes_on}
+use Rattle.service_log.proofs.Shared.{beside, grown, stays, tells}
 use Rattle.service_log.proofs.group.Group.step.Goals as goal
 
--- the replica that took a step was led from the start, as all were
-was_led : (g : _) (c : goal.After-self-1 g) (start : g.row.M.Denot) → All (IsReplica g.M.Machine.applies (stands_in c.self.inside.store) start) c.self.inside.replicas.items → IsReplica g.M.Machine.applies (stands_in c.self.inside.store) start c.index_mut.result.now
-was_led g c start all =
-    let was = c.index_mut.result.now in
-    let within : c.args.at < length c.self.inside.replicas.items = subst (λ (s : GroupState g.row.M.Denot). c.args.at < length s.replicas) (sym c.self.view_is) c.requires.in_bounds in
-    let P : ReplicaState g.row.M.Denot → Type 0 = IsReplica g.M.Machine.applies (stands_in c.self.inside.store) start in
-    subst P (sym c.index_mut.ensures.value) (all c.args.at was within)
-
--- so the group stays one history
-stays : (g : _) (c : goal.After-self-1 g) (start : g.row.M.Denot) (reported : List (Reported g.row.M-Replies.Denot)) → IsOneHistory g.M.Machine.applies start c.self.inside.store c.self.inside.replicas.items reported → IsOneHistory g.M.Machine.applies start c.step.new.store (slice_set c.self.inside.replicas.items c.args.at c.step.new.self) reported
-stays g c start reported h =
-    history_after g.M.Machine.applies start c.self.inside.store c.step.new.store c.step.ensures.adds.keeps c.self.inside.replicas.items c.args.at c.step.new.self
-    (c.step.ensures.follows 0 start (was_led g c start h.prefixes)) reported h
-
 pub returns-clause-log : goal.returns-clause-log
-returns-clause-log g c =
-    let new = c.step.new.store in
-    subst (λ (s : GroupState g.row.M.Denot). (new ≡ s.log) ⊎ (new ≡ s.log ++ c.args.batch.now ∷ [])) c.self.view_is (added_log c.self.inside.store new c.index_mut.result.now.place c.args.batch.now c.step.ensures.adds)
+returns-clause-log g c = grown c.self.view_is c.step.new.store c.index_mut.result.now.place c.args.batch.now c.step.ensures.adds
 
 pub returns-clause-others : goal.returns-clause-others
-returns-clause-others g c =
-    let items = c.self.inside.replicas.items in
-    subst (λ (s : GroupState g.row.M.Denot). (other : ℕ) → other ≢ c.args.at → slice_get (slice_set items c.args.at c.step.new.self) other ≡ slice_get s.replicas other) c.self.view_is (others_stay items c.args.at c.step.new.self)
+returns-clause-others g c = beside c.self.view_is c.args.at c.step.new.self
 
 pub returns-clause-history : goal.returns-clause-history
 returns-clause-history g c = λ start.
-    let items = c.self.inside.replicas.items in
-    let applies = g.M.Machine.applies in
-    subst (λ (s : GroupState g.row.M.Denot). (reported : List (Reported g.row.M-Replies.Denot)) → IsOneHistory applies start s.log s.replicas reported → IsOneHistory applies start c.step.new.store (slice_set items c.args.at c.step.new.self) reported) c.self.view_is
-    (stays g c start)
-
--- and is one with these replies
-tells : (g : _) (c : goal.After-self-1 g) → IsApplied g.M.Machine.applies (stands_in c.step.new.store) c.index_mut.result.now c.args.batch.now c.step.new.replies c.step.new.self → (start : g.row.M.Denot) (reported : List (Reported g.row.M-Replies.Denot)) → IsOneHistory g.M.Machine.applies start c.self.inside.store c.self.inside.replicas.items reported → IsOneHistory g.M.Machine.applies start c.step.new.store (slice_set c.self.inside.replicas.items c.args.at c.step.new.self) (reported ++ record { batch = c.args.batch.now; replies = c.step.new.replies } ∷ [])
-tells g c so start reported h =
-    let applies = g.M.Machine.applies in
-    let was = c.index_mut.result.now in
-    let store = c.step.new.store in
-    let had : HasApplied applies (stands_in store) start was = still applies (stands_in c.self.inside.store) (stands_in store) c.step.ensures.adds.keeps 0 start was (was_led g c start h.prefixes) so.was_well in
-    history_reported applies start store (slice_set c.self.inside.replicas.items c.args.at c.step.new.self) reported (record { batch = c.args.batch.now; replies = c.step.new.replies }) (stays g c start reported h)
-    (due_there applies start store was c.step.new.self c.args.batch.now c.step.new.replies had (answered applies (stands_in store) (stands_in store) (λ place entry h. h) was was c.step.new.self c.args.batch.now c.step.new.replies (none_goes_on applies (stands_in store) was so.was_well) so))
+    stays c.self.view_is g.M.Machine.applies start c.step.new.store c.step.ensures.adds.keeps c.args.at c.requires.in_bounds c.index_mut.result.now c.step.new.self c.index_mut.ensures.value (c.step.ensures.follows 0 start)
 
 pub returns-clause-answered : goal.returns-clause-answered
-returns-clause-answered g c =
-    let items = c.self.inside.replicas.items in
+returns-clause-answered g c = λ is start.
+    let so = c.step.ensures.answered is in
     let applies = g.M.Machine.applies in
-    λ is start.
-    subst (λ (s : GroupState g.row.M.Denot). (before : List (Reported g.row.M-Replies.Denot)) → IsOneHistory applies start s.log s.replicas before → IsOneHistory applies start c.step.new.store (slice_set items c.args.at c.step.new.self) (before ++ record { batch = c.args.batch.now; replies = c.step.new.replies } ∷ [])) c.self.view_is
-    (tells g c (c.step.ensures.answered is) start)
+    let stands = stands_in c.step.new.store in
+    let was = c.index_mut.result.now in
+    let one = answered applies stands stands (λ place entry h. h) was was c.step.new.self c.args.batch.now c.step.new.replies (none_goes_on applies stands was so.was_well) so in
+    tells c.self.view_is g.M.Machine.applies start c.step.new.store c.step.ensures.adds.keeps c.args.at c.requires.in_bounds c.index_mut.result.now c.step.new.self c.index_mut.ensures.value (c.step.ensures.follows 0 start) c.args.batch.now c.step.new.replies one

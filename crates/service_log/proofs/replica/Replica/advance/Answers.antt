@@ -2,7 +2,7 @@
 use Rattle.std.proofs.Common.{◌≡◌, ap, sym, refl, ◌∙◌, false, true}
 use mathlib.Core.Bool.{false≢true}
 use Rattle.service_log.specs.Places.{Same}
-use Rattle.service_log.proofs.Chains.{adds_none, offered_unwritten, read_unwritten, same_self, turned}
+use Rattle.service_log.proofs.Chains.{adds_none, offered_unwritten, read_unwritten, same_self, turned, well_not}
 use Rattle.service_log.proofs.replica.Replica.advance.Goals as goal
 
 pub returns-then-self-clause-fault : goal.returns-then-self-clause-fault
@@ -25,9 +25,7 @@ returns-then-self-ge-MOST_PLACES-clause-adds g c =
     adds_none stands stands c.args.self.now.place c.args.batch.now (same_self stands)
 
 pub returns-then-self-ge-MOST_PLACES-clause-poisoned : goal.returns-then-self-ge-MOST_PLACES-clause-poisoned
-returns-then-self-ge-MOST_PLACES-clause-poisoned g c =
-    let well : c.args.self.now.poisoned ≡ false = ap (λ r. r.poisoned) (sym c.self.view_is) ∙ c.if-self.false in
-    λ was. absurd (false≢true (sym well ∙ was))
+returns-then-self-ge-MOST_PLACES-clause-poisoned g c = λ was. well_not _ c.args.self.now c.self.view_is c.if-self.false was
 
 pub returns-then-self-2-clause-answered : goal.returns-then-self-2-clause-answered
 returns-then-self-2-clause-answered g c = c.follow.ensures.answered
@@ -68,9 +66,7 @@ pub returns-then-self-2-clause-cause : goal.returns-then-self-2-clause-cause
 returns-then-self-2-clause-cause g c = c.follow.ensures.cause
 
 pub returns-then-self-2-clause-poisoned : goal.returns-then-self-2-clause-poisoned
-returns-then-self-2-clause-poisoned g c =
-    let well : c.args.self.now.poisoned ≡ false = ap (λ r. r.poisoned) (sym c.self.view_is) ∙ c.if-self.false in
-    λ was. absurd (false≢true (sym well ∙ was))
+returns-then-self-2-clause-poisoned g c = λ was. well_not _ c.args.self.now c.self.view_is c.if-self.false was
 
 pub returns-then-self-2-clause-adds : goal.returns-then-self-2-clause-adds
 returns-then-self-2-clause-adds g c =
@@ -116,9 +112,7 @@ pub returns-else-self-2-clause-cause : goal.returns-else-self-2-clause-cause
 returns-else-self-2-clause-cause g c = c.offer.ensures.cause
 
 pub returns-else-self-2-clause-poisoned : goal.returns-else-self-2-clause-poisoned
-returns-else-self-2-clause-poisoned g c =
-    let well : c.args.self.now.poisoned ≡ false = ap (λ r. r.poisoned) (sym c.self.view_is) ∙ c.if-self.false in
-    λ was. absurd (false≢true (sym well ∙ was))
+returns-else-self-2-clause-poisoned g c = λ was. well_not _ c.args.self.now c.self.view_is c.if-self.false was
 
 pub returns-else-self-2-clause-adds : goal.returns-else-self-2-clause-adds
 returns-else-self-2-clause-adds g c = c.offer.ensures.adds

@@ -1,7 +1,6 @@
 -- What did not answer the batch wrote nothing, and what answered it wrote it at most once.
-use Rattle.std.proofs.Common.{◌≡◌, ◌≤◌, ap, arith, rules, sym, ◌∙◌, false}
-use mathlib.Core.Bool.{false≢true}
-use Rattle.service_log.proofs.Chains.{adds_none, adds_once, answered, follows, goes_on_trans, later_follows, none_goes_on, not_done, not_long, same_self, same_trans, step_is_well}
+use Rattle.std.proofs.Common.{◌≤◌, arith, rules, sym, ◌∙◌}
+use Rattle.service_log.proofs.Chains.{adds_once, answered, follows, goes_on_trans, later_follows, none_goes_on, none_once, not_done, not_long, same_trans, step_is_well, well_not}
 use Rattle.service_log.proofs.Paces.{got_on, paced_step}
 use Rattle.service_log.specs.declared.serve_fault.Cause.TheVariants.{Busy, Poisoned}
 use Rattle.service_log.proofs.replica.Replica.serve.Goals as goal
@@ -76,9 +75,7 @@ pub returns-then-batch-gt-MOST_BATCH-clause-follows : goal.returns-then-batch-gt
 returns-then-batch-gt-MOST_BATCH-clause-follows g c = λ from start was. was
 
 pub returns-then-batch-gt-MOST_BATCH-clause-once : goal.returns-then-batch-gt-MOST_BATCH-clause-once
-returns-then-batch-gt-MOST_BATCH-clause-once g c =
-    let stands = g.S.Store.stands c.args.store.now in
-    record { at = 0; adds = adds_none stands stands 0 c.args.batch.now (same_self stands) }
+returns-then-batch-gt-MOST_BATCH-clause-once g c = none_once (g.S.Store.stands c.args.store.now) c.args.batch.now
 
 pub returns-then-self-clause-goes_on : goal.returns-then-self-clause-goes_on
 returns-then-self-clause-goes_on g c = none_goes_on g.M.Machine.applies (g.S.Store.stands c.args.store.now) c.args.self.now
@@ -87,22 +84,16 @@ pub returns-then-self-clause-follows : goal.returns-then-self-clause-follows
 returns-then-self-clause-follows g c = λ from start was. was
 
 pub returns-then-self-clause-once : goal.returns-then-self-clause-once
-returns-then-self-clause-once g c =
-    let stands = g.S.Store.stands c.args.store.now in
-    record { at = 0; adds = adds_none stands stands 0 c.args.batch.now (same_self stands) }
+returns-then-self-clause-once g c = none_once (g.S.Store.stands c.args.store.now) c.args.batch.now
 
 pub returns-clause-goes_on : goal.returns-clause-goes_on
 returns-clause-goes_on g c = λ well. c.loop.invariant.goes_on
 
 pub returns-in-Ok-Answered-clause-poisoned : goal.returns-in-Ok-Answered-clause-poisoned
-returns-in-Ok-Answered-clause-poisoned g c =
-    let well : c.args.self.now.poisoned ≡ false = ap (λ r. r.poisoned) (sym c.self.view_is) ∙ c.if-self.false in
-    λ was. absurd (false≢true (sym well ∙ was))
+returns-in-Ok-Answered-clause-poisoned g c = λ was. well_not _ c.args.self.now c.self.view_is c.if-self.false was
 
 pub returns-in-Err-clause-poisoned : goal.returns-in-Err-clause-poisoned
-returns-in-Err-clause-poisoned g c =
-    let well : c.args.self.now.poisoned ≡ false = ap (λ r. r.poisoned) (sym c.self.view_is) ∙ c.if-self.false in
-    λ was. absurd (false≢true (sym well ∙ was))
+returns-in-Err-clause-poisoned g c = λ was. well_not _ c.args.self.now c.self.view_is c.if-self.false was
 
 pub returns-in-Err-clause-unanswered : goal.returns-in-Err-clause-unanswered
 returns-in-Err-clause-unanswered g c = c.step.ensures.unanswered (λ done. not_done c.in-Err.cause (sym c.in-Err.is ∙ done))
