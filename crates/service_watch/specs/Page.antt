@@ -88,12 +88,12 @@ audit_page n =
 -- of the history and what it leads to
 unfoldable pub hall_page : Numbers → List ℕ
 hall_page n =
-    metric_text Gauge (codes "slotctl_history_events") (codes "Events of the history.") n.events
-    ++ known_text Gauge (codes "slotctl_history_events_left") (codes "Events that the history takes yet, of 1000000; at 0 each event is refused.") n.events_left
-    ++ known_text Counter (codes "slotctl_compactions_total") (codes "Compactions of the history since the start.") n.compactions
-    ++ known_text Gauge (codes "slotctl_competitors") (codes "Identities that compete for numbers, those that hold one among them.") n.competitors
-    ++ known_text Gauge (codes "slotctl_numbers_free") (codes "Numbers of the pool that nobody holds.") n.numbers_free
-    ++ known_text Gauge (codes "slotctl_names_given") (codes "Names that are given.") n.names_given
+    metric_text Gauge (codes "slotctl_history_events") (codes "Events of the history.") n.tally.events
+    ++ known_text Gauge (codes "slotctl_history_events_left") (codes "Events that the history takes yet, of 1000000; at 0 each event is refused.") n.tally.events_left
+    ++ known_text Counter (codes "slotctl_compactions_total") (codes "Compactions of the history since the start.") n.tally.compactions
+    ++ known_text Gauge (codes "slotctl_competitors") (codes "Identities that compete for numbers, those that hold one among them.") n.tally.competitors
+    ++ known_text Gauge (codes "slotctl_numbers_free") (codes "Numbers of the pool that nobody holds.") n.tally.numbers_free
+    ++ known_text Gauge (codes "slotctl_names_given") (codes "Names that are given.") n.tally.names_given
 
 -- of the syncs of a journal, where there is one
 unfoldable pub syncs_page : Option DurationHistogram → List ℕ
@@ -109,11 +109,11 @@ syncs_page (Some h) =
 -- of a journal or a log
 unfoldable pub keeping_page : Numbers → List ℕ
 keeping_page n =
-    known_text Gauge (codes "slotctl_journal_bytes") (codes "Bytes of the journal.") n.journal_bytes
-    ++ syncs_page n.syncs
-    ++ known_text Gauge (codes "slotctl_log_place") (codes "Entries of the log that are applied.") n.log_place
+    known_text Gauge (codes "slotctl_journal_bytes") (codes "Bytes of the journal.") n.tally.journal_bytes
+    ++ syncs_page n.tally.syncs
+    ++ known_text Gauge (codes "slotctl_log_place") (codes "Entries of the log that are applied.") n.tally.log_place
     ++ known_text Gauge (codes "slotctl_log_entries_since_compaction")
-    (codes "Entries of the log that are applied since the last compaction; at 10000 the next is due.") n.log_since_compaction
+    (codes "Entries of the log that are applied since the last compaction; at 10000 the next is due.") n.tally.log_since_compaction
     ++ known_text Gauge (codes "slotctl_log_append_age_seconds") (codes "Seconds since an entry of the log was last applied, or since the start.") n.log_age
 
 -- the page: what is not known is left out

@@ -13,8 +13,9 @@
 //!     clients: loops.clients,
 //!     accepted: loops.accepted,
 //!     ..
-//!     log_place: tally.log_place,
-//!     log_since_compaction: tally.log_since_compaction,
+//!     tally: *tally,
+//!     log_age: age_of(tally.log_place, loops.ticks, self.placed),
+//! }
 //! ```
 #![tactic(auto)]
 
@@ -28,7 +29,7 @@ pub mod scraper;
 pub mod scrapers;
 
 pub use answer::put_answer;
-pub use numbers::{Numbers, REFUSALS, Releases};
+pub use numbers::{Numbers, REFUSALS, Releases, Tally};
 pub use page::put_page;
 pub use request::{Asked, MOST_REQUEST, asked_by};
 pub use scraper::Scraper;

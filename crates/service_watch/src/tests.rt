@@ -1,5 +1,5 @@
 use crate::durations::DurationHistogram;
-use crate::{Asked, Numbers, Releases, asked_by, put_answer, put_page};
+use crate::{Asked, Numbers, Releases, Tally, asked_by, put_answer, put_page};
 use std::time::Duration;
 
 // The numbers of a server that knows nothing but what each knows.
@@ -18,16 +18,7 @@ fn few() -> Numbers {
         refusals: [0, 0, 0, 0, 0, 0, 0, 1, 0, 0, 0, 0, 0, 0],
         audit_lines_lost: None,
         ready: true,
-        events: 7,
-        events_left: None,
-        compactions: None,
-        competitors: None,
-        numbers_free: None,
-        names_given: None,
-        journal_bytes: None,
-        syncs: None,
-        log_place: None,
-        log_since_compaction: None,
+        tally: Tally::of_events(7),
         log_age: None,
     }
 }
@@ -97,16 +88,19 @@ fn each_number_has_its_line(rt: HostRuntime) {
     syncs.note(Duration::from_micros(2_000_007));
     let numbers = Numbers {
         ready: false,
-        events_left: Some(999_993),
-        compactions: Some(4),
-        competitors: Some(5),
-        numbers_free: Some(6),
-        names_given: Some(8),
-        journal_bytes: Some(9),
         audit_lines_lost: Some(12),
-        syncs: Some(syncs),
-        log_place: Some(10),
-        log_since_compaction: Some(13),
+        tally: Tally {
+            events_left: Some(999_993),
+            compactions: Some(4),
+            competitors: Some(5),
+            numbers_free: Some(6),
+            names_given: Some(8),
+            journal_bytes: Some(9),
+            syncs: Some(syncs),
+            log_place: Some(10),
+            log_since_compaction: Some(13),
+            ..Tally::of_events(7)
+        },
         log_age: Some(11),
         ..few()
     };
