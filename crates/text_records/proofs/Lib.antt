@@ -1,5 +1,6 @@
 mod Common
 mod ChecksumLemmas
+mod CommandCases
 mod Cut
 mod JsonLemmas
 mod PairLemmas

@@ -4,6 +4,7 @@ use Rattle.text_records.proofs.Common.{list_all, leb_tells, WorldKind, Event, Be
 use Rattle.model_asked.specs.declared.bad.Bad.TheVariants.{TooLong, NotPrintable, UnknownWord}
 use Rattle.model_asked.specs.declared.command.Command.TheVariants as command
 use Rattle.text_lines.specs.Meaning.{is_digit, is_printable, decimal_from, if_below, number_in, same_bytes, command_if, command_of_one, event_of_one, event_if_both, event_of_two, quit_of, seek_of, desk_command_of, command_in, words, meaning, number_below}
+use Rattle.text_records.proofs.CommandCases.{owner_of_one, quit_alone}
 use Rattle.text_records.specs.Narrow.{IsNarrowEvent, IsNarrow, FitsReported}
 use Rattle.text_records.specs.declared.reported.Reported.TheVariants as reported
 use Rattle.text_records.specs.ReplyText.{reported_in, reported_of_words, plain_of, word_alone, word_with, owner_of, saw_of, pairs_in, reported_with, reported_by}
@@ -54,19 +55,6 @@ module _ (kind : WorldKind) where
   two_narrow (word ∷ other ∷ []) = both_by (number_in word) (number_in other) (word_below (2 ^ 64) word (omega arith)) (word_below (2 ^ 64) other (omega arith))
   two_narrow (word ∷ other ∷ third ∷ more) = tt
 
-  owner_by : (o : Option ℕ) → IsNarrow kind (command_if command.Owner o)
-  owner_by None = tt
-  owner_by (Some n) = tt
-
-  owner_narrow : (others : List (List ℕ)) → IsNarrow kind (command_of_one command.Owner others)
-  owner_narrow [] = tt
-  owner_narrow (word ∷ []) = owner_by (number_in word)
-  owner_narrow (word ∷ other ∷ more) = tt
-
-  quit_narrow : (others : List (List ℕ)) → IsNarrow kind (quit_of others)
-  quit_narrow [] = tt
-  quit_narrow (word ∷ more) = tt
-
   seek_narrow : (wide : Bool) → is_wide kind ≡ wide → (others : List (List ℕ)) → IsNarrow kind (seek_of wide others)
   seek_narrow true is others = one_narrow Seek (λ n h. (is, h)) others
   seek_narrow false is others = tt
@@ -79,7 +67,7 @@ module _ (kind : WorldKind) where
       (either (IsNarrow kind) (same_bytes word (codes "put")) (event_of_two Put others) _ (two_narrow others)
       (either (IsNarrow kind) (same_bytes word (codes "get")) (event_of_one Get others) _ (one_narrow Get (λ n h. h) others)
       (either (IsNarrow kind) (same_bytes word (codes "widen")) (event_of_one Widen others) _ (one_narrow Widen (λ n h. h) others)
-      (either (IsNarrow kind) (same_bytes word (codes "owner")) (command_of_one command.Owner others) _ (owner_narrow others)
+      (either (IsNarrow kind) (same_bytes word (codes "owner")) (command_of_one command.Owner others) _ (owner_of_one (IsNarrow kind) (λ bad. tt) (λ n. tt) others)
       (either (IsNarrow kind) (same_bytes word (codes "seek")) (seek_of (is_wide kind) others) (Err UnknownWord) (seek_narrow (is_wide kind) refl others) tt)))))))
 
   words_narrow : (ws : List (List ℕ)) → IsNarrow kind (command_in kind ws)
@@ -87,7 +75,7 @@ module _ (kind : WorldKind) where
   words_narrow (word ∷ others) =
       either (IsNarrow kind) (same_bytes word (codes "begin")) (event_of_one Begin others) _ (one_narrow Begin (λ n h. h) others)
       (either (IsNarrow kind) (same_bytes word (codes "step")) (event_of_one Step others) _ (one_narrow Step (λ n h. h) others)
-      (either (IsNarrow kind) (same_bytes word (codes "quit")) (quit_of others) _ (quit_narrow others)
+      (either (IsNarrow kind) (same_bytes word (codes "quit")) (quit_of others) _ (quit_alone (IsNarrow kind) (λ bad. tt) tt others)
       (either (IsNarrow kind) (gives_names kind) (desk_command_of kind word others) (Err UnknownWord) (desk_narrow word others) tt)))
 
   pub line_narrow : (line : List ℕ) → IsNarrow kind (meaning kind line)

@@ -16,6 +16,7 @@ use Rattle.text_records.specs.Lines.{line, IsCanonical}
 use Rattle.text_records.specs.PlainLine.{SpellsEvent, SpellsReply}
 use Rattle.text_records.specs.Reported.{is_name}
 use Rattle.text_records.specs.ReportedWords.{reported_words}
+use Rattle.text_records.proofs.CommandCases.{owner_of_one, quit_alone}
 use Rattle.text_records.proofs.JsonLemmas.{same_is}
 use Rattle.text_records.proofs.ReportedWords.{same_words}
 use Rattle.text_records.proofs.written.PlainLines.{front, to_reply, close}
@@ -139,19 +140,6 @@ module _ (line : List ℕ) where
   two (word ∷ other ∷ []) h = both_by word other (number_in word) (number_in other) (number_word word) (number_word other) h
   two (word ∷ other ∷ third ∷ more) h = tt
 
-  owner_by : (o : Option ℕ) → IsWordsOf line (command_if command.Owner o)
-  owner_by None = tt
-  owner_by (Some n) = tt
-
-  owner : (others : List (List ℕ)) → IsWordsOf line (command_of_one command.Owner others)
-  owner [] = tt
-  owner (word ∷ []) = owner_by (number_in word)
-  owner (word ∷ other ∷ more) = tt
-
-  quit : (others : List (List ℕ)) → IsWordsOf line (quit_of others)
-  quit [] = tt
-  quit (word ∷ more) = tt
-
   module _ (kind : WorldKind) (word : List ℕ) (others : List (List ℕ)) (h : 32 ∷ line ≡ 32 ∷ (word ++ spaced others)) where
     named : (name : List ℕ) → same_bytes word name ≡ true → 32 ∷ line ≡ 32 ∷ (name ++ spaced others)
     named name is = h ∙ ap (λ (w : List ℕ). 32 ∷ (w ++ spaced others)) (same_is word name is)
@@ -168,7 +156,7 @@ module _ (line : List ℕ) where
         either (IsWordsOf line) (same_bytes word (codes "put")) (event_of_two Put others) _ (λ is. two others (named (codes "put") is))
         (λ n. either (IsWordsOf line) (same_bytes word (codes "get")) (event_of_one Get others) _ (event_named Get (codes "get") (λ n. refl))
         (λ n. either (IsWordsOf line) (same_bytes word (codes "widen")) (event_of_one Widen others) _ (event_named Widen (codes "widen") (λ n. refl))
-        (λ n. either (IsWordsOf line) (same_bytes word (codes "owner")) (command_of_one command.Owner others) _ (λ is. owner others)
+        (λ n. either (IsWordsOf line) (same_bytes word (codes "owner")) (command_of_one command.Owner others) _ (λ is. owner_of_one (IsWordsOf line) (λ bad. tt) (λ n. tt) others)
         (λ n. either (IsWordsOf line) (same_bytes word (codes "seek")) (seek_of (is_wide kind) others) (Err UnknownWord) (of_seek (is_wide kind)) (λ n. tt)))))
 
     of_desk : IsWordsOf line (desk_command_of kind word others)
@@ -181,7 +169,7 @@ module _ (line : List ℕ) where
     of_command =
         either (IsWordsOf line) (same_bytes word (codes "begin")) (event_of_one Begin others) _ (event_named Begin (codes "begin") (λ n. refl))
         (λ n. either (IsWordsOf line) (same_bytes word (codes "step")) (event_of_one Step others) _ (event_named Step (codes "step") (λ n. refl))
-        (λ n. either (IsWordsOf line) (same_bytes word (codes "quit")) (quit_of others) _ (λ is. quit others)
+        (λ n. either (IsWordsOf line) (same_bytes word (codes "quit")) (quit_of others) _ (λ is. quit_alone (IsWordsOf line) (λ bad. tt) tt others)
         (λ n. either (IsWordsOf line) (gives_names kind) (desk_command_of kind word others) (Err UnknownWord) (λ is. of_desk) (λ n. tt))))
 
   of_words : (kind : WorldKind) (ws : List (List ℕ)) → 32 ∷ line ≡ spaced ws → IsWordsOf line (command_in kind ws)
