@@ -16,10 +16,14 @@ abbrev pub is_lack : ShownReply → Bool
 is_lack (Refused why) = is_of_memory why
 is_lack _ = false
 
--- the turns that were not
+-- the turns without those whose reply passes this test
+abbrev pub without : (ShownReply → Bool) → List Turn → List Turn
+without test [] = []
+without test (Answered x ∷ ts) = if test x.reply then without test ts else Answered x ∷ without test ts
+without test (Reported n r ∷ ts) = Reported n r ∷ without test ts
+without test (Ended ∷ ts) = Ended ∷ without test ts
+without test (Misread bad ∷ ts) = Misread bad ∷ without test ts
+
+-- the turns that were not refused memory
 abbrev pub granted : List Turn → List Turn
-granted [] = []
-granted (Answered x ∷ ts) = if is_lack x.reply then granted ts else Answered x ∷ granted ts
-granted (Reported n r ∷ ts) = Reported n r ∷ granted ts
-granted (Ended ∷ ts) = Ended ∷ granted ts
-granted (Misread bad ∷ ts) = Misread bad ∷ granted ts
+granted ts = without is_lack ts
