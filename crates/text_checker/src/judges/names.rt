@@ -104,15 +104,8 @@ impl Names {
     pub fn begin_refusal(&self, id: u64) -> Option<Refusal>
         ensures { OfNames self.now (λ terms o. result ≡ no_begin terms o id) }
     {
-        if id == 0 {
-            Some(Refusal::ZeroIdentity)
-        } else if self.participants.find(id).is_some() {
-            Some(Refusal::AlreadyBegun)
-        } else if self.most <= self.participants.count() as u64 {
-            Some(Refusal::Full)
-        } else {
-            None
-        }
+        self.participants
+            .entry_refusal(id, self.most, Refusal::AlreadyBegun, Refusal::Full)
     }
 
     /// Returns the error that a step of an identity must return, failed allocations aside, or `None`.

@@ -1,9 +1,9 @@
 //! Participants in a list, found by their identities.
 
-ghost use Rattle.std.specs.Prelude.{◌≡◌, ◌<◌, ◌^◌, ◌==◌, [], ◌∷◌, ◌++◌, None, OnOk, filter, length, not};
+ghost use Rattle.std.specs.Prelude.{◌≡◌, ◌<◌, ◌^◌, ◌==◌, [], ◌∷◌, ◌++◌, None, OnOk, Some, filter, if◌then◌else◌, is_some, length, nat_le, not};
 ghost use Rattle.model_steps.specs.Participant.{beginner, program_of, with_participant};
 
-use model_steps::{Hints, Participant};
+use model_steps::{Hints, Participant, Refusal};
 use std::alloc::{AllocError, Global};
 use std::marker::Model;
 
@@ -63,6 +63,29 @@ impl<P: Copy + Drop> People<P> {
             return None;
         };
         Some(self.list[i].program)
+    }
+
+    /// Returns the error that the entry of an identity must return, where at most `most` may be in the list, or `None`.
+    pub fn entry_refusal(
+        &self,
+        id: u64,
+        most: u64,
+        known: Refusal,
+        full: Refusal,
+    ) -> Option<Refusal>
+        ensures { result ≡ (if id == 0 then Some Refusal.ZeroIdentity
+            else if is_some (program_of id self.now) then Some known
+            else if nat_le most (length self.now) then Some full else None) }
+    {
+        if id == 0 {
+            Some(Refusal::ZeroIdentity)
+        } else if self.find(id).is_some() {
+            Some(known)
+        } else if most <= self.count() as u64 {
+            Some(full)
+        } else {
+            None
+        }
     }
 
     /// Replaces what is kept of an identity, if the list has it.

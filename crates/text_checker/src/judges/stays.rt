@@ -66,15 +66,8 @@ impl Stays {
     pub fn enter_refusal(&self, id: u64) -> Option<Refusal>
         ensures { OfSlots self.now (λ o. result ≡ no_entry o.pool id) }
     {
-        if id == 0 {
-            Some(Refusal::ZeroIdentity)
-        } else if self.competitors.find(id).is_some() {
-            Some(Refusal::AlreadyCompeting)
-        } else if self.size <= self.competitors.count() as u64 {
-            Some(Refusal::Crowded)
-        } else {
-            None
-        }
+        self.competitors
+            .entry_refusal(id, self.size, Refusal::AlreadyCompeting, Refusal::Crowded)
     }
 
     /// Returns the error that `probe` of an identity must return, or `None`.

@@ -1,7 +1,8 @@
 -- rows of views
-use Rattle.std.proofs.Common.{◌≡◌, ℕ, zero, suc, ◌<◌, ◌≤◌, ◌↔◌, inl, inr, true, false, List, [], ◌∷◌, length, get_or, refl, sym, ap, ◌∙◌, subst, arith, Some, None, Option, slice_index, slice_set, replicate, nat_lt}
+use Rattle.std.proofs.Common.{◌≡◌, ℕ, zero, suc, ◌<◌, ◌≤◌, ◌↔◌, inl, inr, Bool, true, false, List, [], ◌∷◌, length, get_or, refl, sym, ap, ◌∙◌, subst, arith, Some, None, Option, slice_index, slice_set, replicate, nat_lt}
 use Rattle.text_checker.proofs.judges_lemmas.Common.{cases_Bool, ltb-true, ltb-false, eqb_tells, get_or-set_same, get_or-set_other, length-set, program_of, IsRising, value_of, IsMoment, RenameTerms, RenameObject, IsRecent, ShowsConflict, ShowsSole, Names, Standing, Turn, crowded, SomeSince, HasPair, LacksPair, IsRowOf, TellsMoments, TellsSince, number_reported, reported_in, HoldsNames, turns_in}
 use Rattle.std.proofs.lemmas.Grind.{same_number_lists}
+use Rattle.model_renaming.specs.RenameObject.{IsConflict, IsSole}
 use Rattle.text_checker.proofs.judges_lemmas.seats.Turned.{zero_at}
 use Rattle.text_checker.proofs.judges_lemmas.seats.Crowds.{number_some, some_number, has_seat}
 use Rattle.text_checker.proofs.judges_lemmas.Views.{here, said_further}
@@ -97,32 +98,23 @@ module _ (terms : RenameTerms) (s : Names) (o : RenameObject) (p : ℕ) (st : St
       cc
 
   module _ (row : List ℕ) (tells : TellsSince o h.turns.rows st.turn.since view (Some row)) where
-    pub conflict_shown : (crowded st.turn.number row ≡ true) ↔ ShowsConflict o p view
-    conflict_shown = (
-      (λ crowd.
+    -- what rows of recent moments tell by their crowd, this row tells of one of them
+    told : (b : Bool) (Is : ℕ → Type 0) → ((i : ℕ) → st.turn.since ≤ i → i ≤ o.last → (crowded st.turn.number (h.turns.rows i) ≡ b) ↔ Is i) →
+        (crowded st.turn.number row ≡ b) ↔ ((i : ℕ) × IsRecent o p i × IsMoment view (o.moment i) × Is i)
+    told b Is each = (
+      (λ shown.
           let k = tells.0 in
-          record {
-            index = k.index;
-            recent = recent terms s o p st h is some k.index k.no_earlier k.no_later;
-            is = k.passes;
-            conflict = (conflicts terms s o p st h is some k.index k.no_earlier k.no_later).0 (ap (crowded st.turn.number) (tells.1 k.index k.no_later k.passes) ∙ crowd);
-          }),
-      (λ c.
-          let from = since_of_recent terms s o p st h is some c.index c.recent in
-          ap (crowded st.turn.number) (sym (tells.1 c.index c.recent.no_later c.is)) ∙ (conflicts terms s o p st h is some c.index from c.recent.no_later).1 c.conflict),
+          let recently = recent terms s o p st h is some k.index k.no_earlier k.no_later in
+          (k.index, recently, k.passes, (each k.index k.no_earlier k.no_later).0 (ap (crowded st.turn.number) (tells.1 k.index k.no_later k.passes) ∙ shown))),
+      (λ c. ap (crowded st.turn.number) (sym (tells.1 c.0 c.1.no_later c.2)) ∙ (each c.0 (since_of_recent terms s o p st h is some c.0 c.1) c.1.no_later).1 c.3),
     )
 
+    pub conflict_shown : (crowded st.turn.number row ≡ true) ↔ ShowsConflict o p view
+    conflict_shown =
+        let k = told true (λ i. IsConflict (o.moment i) p) (conflicts terms s o p st h is some) in
+        ((λ crowd. (let c = k.0 crowd in record { index = c.0; recent = c.1; is = c.2; conflict = c.3 })), (λ c. k.1 (c.index, c.recent, c.is, c.conflict)))
+
     pub sole_shown : (crowded st.turn.number row ≡ false) ↔ ShowsSole o p st.turn.number view
-    sole_shown = (
-      (λ calm.
-          let k = tells.0 in
-          record {
-            index = k.index;
-            recent = recent terms s o p st h is some k.index k.no_earlier k.no_later;
-            is = k.passes;
-            sole = (stands_alone terms s o p st h is some k.index k.no_earlier k.no_later).0 (ap (crowded st.turn.number) (tells.1 k.index k.no_later k.passes) ∙ calm);
-          }),
-      (λ c.
-          let from = since_of_recent terms s o p st h is some c.index c.recent in
-          ap (crowded st.turn.number) (sym (tells.1 c.index c.recent.no_later c.is)) ∙ (stands_alone terms s o p st h is some c.index from c.recent.no_later).1 c.sole),
-    )
+    sole_shown =
+        let k = told false (λ i. IsSole (o.moment i) p st.turn.number) (stands_alone terms s o p st h is some) in
+        ((λ calm. (let c = k.0 calm in record { index = c.0; recent = c.1; is = c.2; sole = c.3 })), (λ c. k.1 (c.index, c.recent, c.is, c.sole)))
