@@ -48,7 +48,8 @@ impl Model for WriteAhead {
 pub(crate) fn applied(hall: &mut Hall, event: Event, view: &mut View) -> Reply<()>
     ensures may { HallMay hall.old event (with_view result view.new) hall.new }
     ensures config { hall.new.config ≡ hall.old.config }
-    ensures accepted { is_refusal (with_view result view.new) ≡ false → hall.new.history ≡ hall.old.history ++ exchange event (with_view result view.new) ∷ [] }
+    ensures accepted { is_refusal (with_view result view.new) ≡ false →
+        hall.new.history ≡ hall.old.history ++ exchange event (with_view result view.new) ∷ [] }
     ensures refused { is_refusal (with_view result view.new) ≡ true → hall.new.history ≡ hall.old.history }
 {
     law_of_serving();

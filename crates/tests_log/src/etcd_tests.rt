@@ -14,19 +14,19 @@ const TAKEN: &[u8] =
     b"HTTP/1.1 200 OK\r\nConnection: close\r\nContent-Length: 13\r\n\r\n{\"header\":{}}";
 
 // `hi` at the place 42 under `log/`.
-const FOUND: &[u8] =
-    b"HTTP/1.1 200 OK\r\nConnection: close\r\nContent-Length: 75\r\n\r\n{\"header\":{},\"kvs\":[{\"key\":\"bG9nLzAwMDAwMDAwMDAwMDAwNDI=\",\"value\":\"aGk=\"}]}";
+const FOUND: &[u8] = b"HTTP/1.1 200 OK\r\nConnection: close\r\nContent-Length: 75\r\n\r\n\
+        {\"header\":{},\"kvs\":[{\"key\":\"bG9nLzAwMDAwMDAwMDAwMDAwNDI=\",\"value\":\"aGk=\"}]}";
 
 // `hi` at the place 42 and `ho` at the place 43.
-const FOUND_TWO: &[u8] =
-    b"HTTP/1.1 200 OK\r\nConnection: close\r\nContent-Length: 129\r\n\r\n{\"header\":{},\"kvs\":[{\"key\":\"bG9nLzAwMDAwMDAwMDAwMDAwNDI=\",\"value\":\"aGk=\"},{\"key\":\"bG9nLzAwMDAwMDAwMDAwMDAwNDM=\",\"value\":\"aG8=\"}]}";
+const FOUND_TWO: &[u8] = b"HTTP/1.1 200 OK\r\nConnection: close\r\nContent-Length: 129\r\n\r\n\
+        {\"header\":{},\"kvs\":[{\"key\":\"bG9nLzAwMDAwMDAwMDAwMDAwNDI=\",\"value\":\"aGk=\"},{\"key\":\"bG9nLzAwMDAwMDAwMDAwMDAwNDM=\",\"value\":\"aG8=\"}]}";
 
 // `ho` at the place 43, and at the place 42.
-const FOUND_NEXT: &[u8] =
-    b"HTTP/1.1 200 OK\r\nConnection: close\r\nContent-Length: 75\r\n\r\n{\"header\":{},\"kvs\":[{\"key\":\"bG9nLzAwMDAwMDAwMDAwMDAwNDM=\",\"value\":\"aG8=\"}]}";
+const FOUND_NEXT: &[u8] = b"HTTP/1.1 200 OK\r\nConnection: close\r\nContent-Length: 75\r\n\r\n\
+        {\"header\":{},\"kvs\":[{\"key\":\"bG9nLzAwMDAwMDAwMDAwMDAwNDM=\",\"value\":\"aG8=\"}]}";
 
-const CHANGED: &[u8] =
-    b"HTTP/1.1 200 OK\r\nConnection: close\r\nContent-Length: 75\r\n\r\n{\"header\":{},\"kvs\":[{\"key\":\"bG9nLzAwMDAwMDAwMDAwMDAwNDI=\",\"value\":\"aG8=\"}]}";
+const CHANGED: &[u8] = b"HTTP/1.1 200 OK\r\nConnection: close\r\nContent-Length: 75\r\n\r\n\
+        {\"header\":{},\"kvs\":[{\"key\":\"bG9nLzAwMDAwMDAwMDAwMDAwNDI=\",\"value\":\"aG8=\"}]}";
 
 // A member of an etcd whose quota is used up.
 const NO_SPACE: &[u8] =

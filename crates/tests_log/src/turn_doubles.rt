@@ -145,7 +145,10 @@ impl Persist<Reported> for Teller {
 
     ghost may_answer = { λ k. ⊤ };
 
-    ghost holds = { λ k w. record { pool = record { most = 0; size = 0; bits = record { first = tt; values = []; bits = [] }; competitors = [] }; values = [] } };
+    ghost holds = { λ k w. record {
+      pool = record { most = 0; size = 0; bits = record { first = tt; values = []; bits = [] }; competitors = [] };
+      values = [];
+    } };
 
     fn put_held<B: Allocator>(&self, _service: &Reported, query: HeldQuery, out: &mut Replies<B>) {
         match query {
