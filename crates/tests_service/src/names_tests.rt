@@ -48,24 +48,6 @@ fn posts<L: LockName>(
     grant
 }
 
-/// 10 is named by its 17th step, and posts its name; before, it had none.
-fn ten_posts<L: LockName, R: Abort + Wait>(
-    rt: &R,
-    lock: &HallLock<L>,
-    board: &Board<Global>,
-    session: &mut Session<L>,
-    seat: &mut ReaderSeat,
-) -> Grant
-    requires { seat.old.board ≡ board.now }
-    ensures seat { seat.new.board ≡ board.now }
-    ensures grant { result.board ≡ board.now }
-{
-    let unnamed = granted(post_name(session, board, seat));
-    let named = lock.rename(rt, session, 17);
-    assert!(rt; unnamed == None && named == Ok(Some(1)));
-    posts(rt, board, session, seat, (1, 10))
-}
-
 /// 20 is named by its 32nd step, and posts its name twice; that of 10 it does not get.
 fn twenty_posts<L: LockName, R: Abort + Wait>(
     rt: &R,
@@ -125,7 +107,11 @@ fn two_post<L: LockName, R: Abort + Wait>(
     let mut second = board.reader(seat);
     let mut third = board.reader(seat);
     let mut ten = lock.session(rt, alloc, 10).expect(rt, "room for a session");
-    let mut one = ten_posts(rt, lock, board, &mut ten, seat);
+    // 10 is named by its 17th step; before, it had no name to post.
+    let unnamed = granted(post_name(&ten, board, seat));
+    let named = lock.rename(rt, &mut ten, 17);
+    assert!(rt; unnamed == None && named == Ok(Some(1)));
+    let mut one = posts(rt, board, &ten, seat, (1, 10));
     let mut twenty = lock.session(rt, alloc, 20).expect(rt, "room for a session");
     let mut two = twenty_posts(rt, lock, board, &mut twenty, &mut second);
     assert!(rt; finds(board, &mut third));
