@@ -1,5 +1,4 @@
 mod Common
-mod ConfigLemmas
 mod DeskLemmas
 mod Logging
 mod RebuiltLemmas

@@ -1,3 +1,4 @@
+pub mod Configs
 pub mod HallLaws
 pub mod Histories
 pub mod ReadingLemmas

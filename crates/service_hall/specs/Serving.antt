@@ -11,7 +11,7 @@ use Rattle.model_asked.specs.Requests.{Request}
 use Rattle.model_asked.specs.Requests.Request.{Take, OwnerOf}
 use Rattle.text_player.specs.Runs.{Runs}
 use Rattle.text_player.specs.Turns.{Turn}
-use Rattle.text_player.specs.Turns.Turn.{Answered, Reported, Ended, Misread}
+use Rattle.text_worlds.specs.Granted.{without}
 use Rattle.service_hall.specs.Halls.{hall_of, desk_of, HallMay}
 use Rattle.service_hall.specs.HallState.{HallState}
 
@@ -32,11 +32,7 @@ wants_room _ = false
 
 -- the turns without those whose reply is `NoMemory` or `HistoryFull`
 abbrev pub with_room : List Turn → List Turn
-with_room [] = []
-with_room (Answered x ∷ ts) = if wants_room x.reply then with_room ts else Answered x ∷ with_room ts
-with_room (Reported n r ∷ ts) = Reported n r ∷ with_room ts
-with_room (Ended ∷ ts) = Ended ∷ with_room ts
-with_room (Misread bad ∷ ts) = Misread bad ∷ with_room ts
+with_room ts = without wants_room ts
 
 -- the exchanges whose events were accepted
 abbrev pub accepted : List Exchange → List Exchange

@@ -1,5 +1,5 @@
 use Rattle.std.proofs.Common.{rules}
-use Rattle.service_hall.proofs.ConfigLemmas.{same_config}
+use Rattle.service_hall.proofs.cited.Configs.{same_config}
 use Rattle.service_hall.proofs.compacting.is_same_config.Goals as goal
 
 pub returns : goal.returns
