@@ -5,6 +5,7 @@ use Rattle.std.proofs.lemmas.List.{replicate_more}
 use Rattle.std.proofs.lemmas.List.Elements.{All-push, All-weaker}
 use mathlib.Core.List.{IsPrefix}
 use Rattle.service_lock.proofs.Fronts.{prefix_trans, prefix_get, prefix_length}
+use Rattle.service_lock.specs.Kepts.{IsClerk}
 use Rattle.service_hall.specs.GoesOn.{GoesOn}
 use Rattle.service_hall.specs.Serving.{accepted}
 use Rattle.service_hall.proofs.cited.HallLaws.{goes_on, goes_by, stays_by}
@@ -121,6 +122,13 @@ module _ (c : Config) (h : HallState) (seen : List Exchange) (ks : List Kept) (n
 pub stands_answered : (c : Config) (h : HallState) (seen front now : List Exchange) (ks : List Kept) (next : ℕ) → h.config ≡ c → SatisfiesSpec h → front ≡ h.history → IsPrefix seen front → now ≡ front → Fits seen ks → next ≤ length seen → Stands c now ks next
 stands_answered c h seen front now ks next of lawful whole longer again fits within =
     subst (λ (l : List Exchange). Stands c l ks next) (sym (again ∙ whole)) (stands_seen c h seen ks next of lawful (subst (IsPrefix seen) whole longer) fits within)
+
+-- and it is a clerk still, which has kept what it kept
+pub clerk_answered : (c : Config) (h : HallState) (seen front now : List Exchange) (parts amount : ℕ) (ks kept : List Kept) (next : ℕ) → h.config ≡ c → SatisfiesSpec h → front ≡ h.history → IsPrefix seen front → now ≡ front → kept ≡ ks →
+    IsClerk c parts amount ks next seen → IsClerk c parts amount kept next now
+clerk_answered c h seen front now parts amount ks kept next of lawful whole longer again same k =
+    let s = stands_answered c h seen front now ks next of lawful whole longer again k.4 k.3 in
+    rw same (k.0, k.1, k.2, s.within, s.fits, s.lawful)
 
 -- a refused event leaves the hall, and what the caller has kept, as they were
 pub taken_unchanged : (c : Config) (h : HallState) (e : Event) (r : ShownReply) (s t : CallerState) (front : List Exchange) → h.config ≡ c → SatisfiesSpec h → front ≡ h.history → IsPrefix s.seen front → Fits s.seen s.kept → HallMay h e r h → is_refusal r ≡ true → t.seen ≡ front → t.kept ≡ s.kept → IsTaken c s e r t

@@ -1,31 +1,21 @@
 //! Why a server failed.
 
 use std::alloc::AllocError;
-use std::error::Error;
-use std::fmt;
+use thiserror::Error;
 
 /// Why a server did not serve all its connections. A fault of one connection is none of these.
-#[derive(Clone, Copy, Debug, Drop, PartialEq, Eq)]
+#[derive(Clone, Copy, Debug, Drop, PartialEq, Eq, Error)]
 pub enum ServerFault {
     /// An allocation failed, and the clerks are lost.
+    #[error("no memory")]
     Memory = 3,
     /// To listen or to accept failed.
+    #[error("network fault")]
     Network = 4,
     /// The history at the end is not what the clerks kept.
+    #[error("history fault")]
     History = 5,
 }
-
-impl fmt::Display for ServerFault {
-    fn fmt<W: fmt::Write>(&self, f: &mut fmt::Formatter<W>) -> fmt::Result {
-        f.write_str(match self {
-            ServerFault::Memory => "no memory",
-            ServerFault::Network => "network fault",
-            ServerFault::History => "history fault",
-        })
-    }
-}
-
-impl Error for ServerFault {}
 
 /// Why `serve` failed.
 #[derive(Clone, Copy, Debug, Drop, PartialEq, Eq)]

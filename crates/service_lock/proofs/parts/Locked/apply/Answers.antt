@@ -6,7 +6,7 @@ use Rattle.service_lock.proofs.Fronts.{prefix_length}
 use Rattle.service_hall.proofs.cited.Histories.{kept_refused, room_left}
 use Rattle.service_hall.proofs.cited.HallLaws.{goes_by, goes_on, stays_by}
 use Rattle.service_lock.proofs.Places.{rises_more}
-use Rattle.service_lock.proofs.Standing.{one_more, one_clear, taken_refused, taken_accepted, taken_unchanged, stands_answered, stands_kept}
+use Rattle.service_lock.proofs.Standing.{one_more, one_clear, taken_refused, taken_accepted, taken_unchanged, clerk_answered, stands_kept}
 use Rattle.service_lock.proofs.parts.Locked.apply.Goals as goal
 
 pub invariant_of-self-then-is_refusal : goal.invariant_of-self-then-is_refusal
@@ -27,10 +27,8 @@ invariant_of-self-then-is_refusal g c =
 pub invariant_of-clerk-then-is_refusal : goal.invariant_of-clerk-then-is_refusal
 invariant_of-clerk-then-is_refusal g c =
     let k = c.clerk.inside in
-    let inv = c.clerk.invariant in
-    let old = c.args.self.now in
-    let s = stands_answered g.L.LockName.config old.hall k.seen old.front c.show.new.seen k.kept.items k.next old.config c.len-place.ensures.lawful old.whole c.show.ensures.begins c.show.ensures.seen inv.4 inv.3 in
-    rw c.refusal_of.ensures.items (inv.0, inv.1, inv.2, s.within, s.fits, s.lawful)
+    clerk_answered g.L.LockName.config c.args.self.now.hall k.seen c.args.self.now.front c.show.new.seen k.share.parts k.share.amount k.kept.items c.refusal_of.new.kept.items k.next
+    c.args.self.now.config c.len-place.ensures.lawful c.args.self.now.whole c.show.ensures.begins c.show.ensures.seen c.refusal_of.ensures.items c.clerk.invariant
 
 pub returns-then-is_refusal-clause-taken : goal.returns-then-is_refusal-clause-taken
 returns-then-is_refusal-clause-taken g c =
@@ -123,10 +121,8 @@ invariant_of-self g c =
 pub invariant_of-clerk : goal.invariant_of-clerk
 invariant_of-clerk g c =
     let k = c.clerk.inside in
-    let inv = c.clerk.invariant in
-    let old = c.args.self.now in
-    let s = stands_answered g.L.LockName.config old.hall k.seen old.front c.show.new.seen k.kept.items k.next old.config c.len-place.ensures.lawful old.whole c.show.ensures.begins c.show.ensures.seen inv.4 inv.3 in
-    rw c.refusal_of.ensures.items (inv.0, inv.1, inv.2, s.within, s.fits, s.lawful)
+    clerk_answered g.L.LockName.config c.args.self.now.hall k.seen c.args.self.now.front c.show.new.seen k.share.parts k.share.amount k.kept.items c.refusal_of.new.kept.items k.next
+    c.args.self.now.config c.len-place.ensures.lawful c.args.self.now.whole c.show.ensures.begins c.show.ensures.seen c.refusal_of.ensures.items c.clerk.invariant
 
 pub returns-in-Some-clause-taken : goal.returns-in-Some-clause-taken
 returns-in-Some-clause-taken g c =
