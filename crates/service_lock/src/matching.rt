@@ -1,7 +1,8 @@
 //! The end of a history: it is compared with what its callers kept.
 
-ghost use Rattle.std.specs.Prelude.{◌≡◌, All, replicate, ◌+◌, ◌++◌, length, map, true, false, slice_get, slice_set, slice_index_or, vec_len, IfSome};
+ghost use Rattle.std.specs.Prelude.{◌≡◌, List, All, replicate, ◌+◌, ◌++◌, length, map, true, false, slice_get, slice_set, slice_index_or, vec_len, IfSome};
 ghost use Rattle.service_lock.specs.Kepts.{IsJust};
+ghost use Rattle.service_lock.specs.declared.kept.Kept.{Kept};
 ghost use Rattle.service_lock.specs.Marks.{IsMarked, AreMarked};
 ghost use Rattle.service_hall.specs.Halls.{SatisfiesSpec};
 
@@ -50,6 +51,32 @@ impl<L: LockName> Clerk<L> {
     {
         let Clerk { share, .. } = self;
         share
+    }
+}
+
+/// Whoever called a lock, with the events that it kept.
+trait Caller {
+    /// What it kept.
+    ghost kept: { Self → List Kept };
+
+    /// Returns what it kept.
+    fn kept_log(&self) -> &KeptLog
+        ensures { result.now.items ≡ kept self.now };
+}
+
+impl<L: LockName> Caller for Clerk<L> {
+    ghost kept = { λ c. c.kept };
+
+    fn kept_log(&self) -> &KeptLog {
+        &self.kept
+    }
+}
+
+impl<L: LockName> Caller for Session<L> {
+    ghost kept = { λ s. s.clerk.kept };
+
+    fn kept_log(&self) -> &KeptLog {
+        &self.clerk.kept
     }
 }
 
@@ -105,36 +132,19 @@ fn mark_list(hall: &Hall, marks: &mut [bool], left: usize, kept: &KeptLog) -> Op
     Some(left - kept.len())
 }
 
-/// Marks what sessions kept, and returns how many places are left.
-fn mark_sessions<L: LockName>(
+/// Marks what these callers kept, and returns how many places are left.
+fn mark_each<C: Caller>(
     hall: &Hall,
     marks: &mut [bool],
     left: usize,
-    sessions: &Vec<Session<L>>,
+    callers: &Vec<C>,
 ) -> Option<usize>
     requires { length marks.old ≡ length hall.now.history }
-    ensures { IfSome result (λ n. AreMarked hall.now.history marks.old marks.new left n (map (λ s. s.clerk.kept) sessions.now.items)) }
+    ensures { IfSome result (λ n. AreMarked hall.now.history marks.old marks.new left n (map C.kept callers.now.items)) }
 {
     let mut now = left;
-    for session in sessions {
-        now = mark_list(hall, marks, now, &session.clerk.kept)?;
-    }
-    Some(now)
-}
-
-/// Marks what clerks kept, and returns how many places are left.
-fn mark_clerks<L: LockName>(
-    hall: &Hall,
-    marks: &mut [bool],
-    left: usize,
-    clerks: &Vec<Clerk<L>>,
-) -> Option<usize>
-    requires { length marks.old ≡ length hall.now.history }
-    ensures { IfSome result (λ n. AreMarked hall.now.history marks.old marks.new left n (map (λ c. c.kept) clerks.now.items)) }
-{
-    let mut now = left;
-    for clerk in clerks {
-        now = mark_list(hall, marks, now, &clerk.kept)?;
+    for caller in callers {
+        now = mark_list(hall, marks, now, caller.kept_log())?;
     }
     Some(now)
 }
@@ -157,10 +167,10 @@ fn mark_callers<L: LockName>(
     requires { marks.old ≡ replicate (length hall.now.history) false }
     ensures { result ≡ true → IsJust hall.now.history (map (λ s. s.clerk.kept) sessions.now.items ++ map (λ c. c.kept) clerks.now.items) }
 {
-    let Some(middle) = mark_sessions(hall, marks, hall.len(), sessions) else {
+    let Some(middle) = mark_each(hall, marks, hall.len(), sessions) else {
         return false;
     };
-    let Some(left) = mark_clerks(hall, marks, middle, clerks) else {
+    let Some(left) = mark_each(hall, marks, middle, clerks) else {
         return false;
     };
     if left != 0 {
