@@ -1,6 +1,6 @@
 -- what clap's answer tells of the words
 use Rattle.std.proofs.Common.{ap, sym, ◌≡◌, ◌⊎◌, ◌||◌, ◌∙◌, inl, inr, ℕ, List, [], ◌∷◌, Bool, true, false, codes, subst, refl}
-use Rattle.std.proofs.Common.{Option, Some, None, option_map}
+use Rattle.std.proofs.Common.{Option, Some, None, MatchOption, option_map}
 use Rattle.tool_work.proofs.Common.{same_Some, Ask, Drawing, Hosting, Playing, Racing, Serving, Showing, slotctl_app}
 use Rattle.std.specs.List.{list_any}
 use Rattle.std.specs.Str.{bytes_eq}
@@ -14,7 +14,8 @@ use Rattle.clap.proofs.OnLiterals.{clap_on_literals}
 use Rattle.tool_work.specs.declared.asked.Ask.TheVariants.{Play, Show, Draw, Race, Serve, Host}
 use Rattle.tool_work.specs.declared.misuse.Misuse.{Misuse}
 use Rattle.tool_work.specs.declared.misuse.Misuse.TheVariants.{Help, Words, Memory}
-use Rattle.tool_work.specs.Asked.{AsksFor, GiveAsked, IsAsked, IsDrawingOf, IsHostingOf, IsPlayingOf, IsMisuse, IsMisuseOf, IsRefusal, IsRacingOf, IsServingOf, IsShowingOf, is_help, is_refusal, subcommand_name}
+use Rattle.tool_work.proofs.ConfigLemmas.{unless_some}
+use Rattle.tool_work.specs.Asked.{AsksFor, GiveAsked, IsAsked, IsMisuse, IsMisuseOf, IsRefusal, is_help, is_refusal, subcommand_name}
 
 pub app_is_simple : is_simple slotctl_app ≡ true
 unfolding clap_on_literals
@@ -53,7 +54,7 @@ refused words kinds (Help text) is none never = elim is [ ]
 refused words kinds (Words text) is none never = inr (none, never)
 
 -- where one subcommand was met, what no subcommand of its name gives is not asked for
-pub nothing_met : {name : List ℕ} (rows : List Row) → ((a : Ask) → subcommand_name a ≡ name → GiveAsked rows a → ⊥) → (a : Ask) → IsAsked (Some (name, rows)) a → ⊥
+nothing_met : {name : List ℕ} (rows : List Row) → ((a : Ask) → subcommand_name a ≡ name → GiveAsked rows a → ⊥) → (a : Ask) → IsAsked (Some (name, rows)) a → ⊥
 nothing_met {name} rows none a h =
     let same = same_Some (name, rows) (subcommand_name a, h.0) h.1 in
     none a (sym (ap (λ (p : List ℕ × List Row). p.0) same)) (subst (λ (r : List Row). GiveAsked r a) (sym (ap (λ (p : List ℕ × List Row). p.1) same)) h.2)
@@ -62,35 +63,64 @@ nothing_met {name} rows none a h =
 apart : (name other : List ℕ) → bytes_eq name other ≡ false → name ≡ other → ⊥
 apart name other differ same = let no : false ≡ true = sym differ ∙ (bytes_eq-Decides name other).1 same in cc
 
--- nothing of the name `play`, where its options give nothing
-pub nothing_played : (rows : List Row) → ((p : Playing) → IsPlayingOf rows p → ⊥) → (a : Ask) → subcommand_name a ≡ codes "play" → GiveAsked rows a → ⊥
-nothing_played rows none (Play p) same h = none p h
-nothing_played rows none a same h = apart (subcommand_name a) (codes "play") refl same
+-- the subcommands that have options
+pub data Optioned : Type 0 where
+  play : Optioned
+  show : Optioned
+  draw : Optioned
+  race : Optioned
+  serve : Optioned
+  host : Optioned
 
--- nothing of the name `show`, where its options give nothing
-pub nothing_shown : (rows : List Row) → ((s : Showing) → IsShowingOf rows s → ⊥) → (a : Ask) → subcommand_name a ≡ codes "show" → GiveAsked rows a → ⊥
-nothing_shown rows none (Show s) same h = none s h
-nothing_shown rows none a same h = apart (subcommand_name a) (codes "show") refl same
+-- the name of each
+abbrev pub name_of : Optioned → List ℕ
+name_of play = codes "play"
+name_of show = codes "show"
+name_of draw = codes "draw"
+name_of race = codes "race"
+name_of serve = codes "serve"
+name_of host = codes "host"
 
--- nothing of the name `draw`, where its options give nothing
-pub nothing_drawn : (rows : List Row) → ((d : Drawing) → IsDrawingOf rows d → ⊥) → (a : Ask) → subcommand_name a ≡ codes "draw" → GiveAsked rows a → ⊥
-nothing_drawn rows none (Draw d) same h = none d h
-nothing_drawn rows none a same h = apart (subcommand_name a) (codes "draw") refl same
+-- what its options give
+abbrev pub Given : Optioned → Type 0
+Given play = Playing
+Given show = Showing
+Given draw = Drawing
+Given race = Racing
+Given serve = Serving
+Given host = Hosting
 
--- nothing of the name `race`, where its options give nothing
-pub nothing_raced : (rows : List Row) → ((r : Racing) → IsRacingOf rows r → ⊥) → (a : Ask) → subcommand_name a ≡ codes "race" → GiveAsked rows a → ⊥
-nothing_raced rows none (Race r) same h = none r h
-nothing_raced rows none a same h = apart (subcommand_name a) (codes "race") refl same
+-- and what is asked for then
+abbrev pub ask_of : (s : Optioned) → Given s → Ask
+ask_of play given = Play given
+ask_of show given = Show given
+ask_of draw given = Draw given
+ask_of race given = Race given
+ask_of serve given = Serve given
+ask_of host given = Host given
 
--- nothing of the name `serve`, where its options give nothing
-pub nothing_served : (rows : List Row) → ((s : Serving) → IsServingOf rows s → ⊥) → (a : Ask) → subcommand_name a ≡ codes "serve" → GiveAsked rows a → ⊥
-nothing_served rows none (Serve s) same h = none s h
-nothing_served rows none a same h = apart (subcommand_name a) (codes "serve") refl same
+-- by its name nothing else is asked for
+alone : (rows : List Row) (s : Optioned) (a : Ask) → subcommand_name a ≡ name_of s → GiveAsked rows a → (given : Given s) × GiveAsked rows (ask_of s given)
+alone rows play (Play given) same h = (given, h)
+alone rows show (Show given) same h = (given, h)
+alone rows draw (Draw given) same h = (given, h)
+alone rows race (Race given) same h = (given, h)
+alone rows serve (Serve given) same h = (given, h)
+alone rows host (Host given) same h = (given, h)
+alone rows s a same h = absurd (apart (subcommand_name a) (name_of s) refl same)
 
--- nothing of the name `host`, where its options give nothing
-pub nothing_hosted : (rows : List Row) → ((x : Hosting) → IsHostingOf rows x → ⊥) → (a : Ask) → subcommand_name a ≡ codes "host" → GiveAsked rows a → ⊥
-nothing_hosted rows none (Host x) same h = none x h
-nothing_hosted rows none a same h = apart (subcommand_name a) (codes "host") refl same
+-- where its options give nothing it asks for nothing
+pub asks_nothing : {name : List ℕ} {asked : Option Ask} (rows : List Row) (s : Optioned) → asked ≡ None → name ≡ name_of s → ((given : Given s) → GiveAsked rows (ask_of s given) → ⊥) →
+    MatchOption asked ((a : Ask) → IsAsked (Some (name, rows)) a → ⊥) (IsAsked (Some (name, rows)))
+asks_nothing {name} {asked} rows s none is never =
+    unless_some asked _ (IsAsked (Some (name, rows))) none (nothing_met rows (λ a same h. let given = alone rows s a (same ∙ is) h in never given.0 given.1))
+
+abbrev met_with : List ℕ → List Row → Option (List ℕ × List Row)
+met_with name rows = Some (name, rows)
+
+-- what was met, by a name that is this one
+pub met : {name is : List ℕ} (rows : List Row) → name ≡ is → met_with name rows ≡ met_with is rows
+met rows same = ap (λ n. met_with n rows) same
 
 -- what was met, from its name and its rows
 pub both_met : {X A B : Type 0} (f : X → A) (g : X → B) (o : Option X) (a : A) (b : B) → Some a ≡ option_map f o →

@@ -42,6 +42,10 @@ WritesNumber text n = IsNumeral 10 (without_leading_plus text) × (digits_value 
 abbrev pub HasNumber : List Row → List ℕ → ℕ → Type 0
 HasNumber rows id n = (text : List ℕ) × (one_of id rows ≡ Some text) × WritesNumber text n
 
+-- what is given is this by what clap matched, and nothing is given where nothing is this
+abbrev pub IsGiven : {T : Type 0} → (List Row → T → Type 0) → List Row → Option T → Type 0
+IsGiven {T = T} IsIt rows given = MatchOption given ((x : T) → IsIt rows x → ⊥) (IsIt rows)
+
 -- the world's name is among what clap matched; `wide` is no world for anybody who types it
 abbrev pub HasWorld : List Row → WorldKind → Type 0
 HasWorld rows world = (first_of (codes "world") rows ≡ Some (world_name world)) × (is_wide world ≡ false)

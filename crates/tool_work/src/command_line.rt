@@ -309,7 +309,8 @@ const HOST: Manual = Manual {
         Choice {
             name: "idle",
             takes: Takes::SomeNumber(0, 31_536_000),
-            help: "after how many seconds a client that says nothing is closed, or 0 for never; without this 30 with --hold connection, and else 600; an empty line, answered bad 3, keeps it and adds nothing",
+            help: "after how many seconds a client that says nothing is closed, or 0 for never; without this 30 with --hold connection, and else 600; \
+                an empty line, answered bad 3, keeps it and adds nothing",
         },
         Choice {
             name: "hold",
@@ -369,7 +370,8 @@ const HOST: Manual = Manual {
         Choice {
             name: "log",
             takes: Takes::Text("FILE"),
-            help: "appends to a file a line of JSON for each number taken or given back and each refusal 8, 9 or 10, with the time and the peer; moved away it is made anew",
+            help: "appends to a file a line of JSON for each number taken or given back and each refusal 8, 9 or 10, \
+                with the time and the peer; moved away it is made anew",
         },
     ],
 };

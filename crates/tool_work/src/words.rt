@@ -2,7 +2,7 @@
 
 ghost use Rattle.std.specs.Prelude.{◌≡◌, ℕ, Bool, true, false, ◌<◌, ◌^◌, IfNone, IfSome, MatchOption, Some, map};
 ghost use Rattle.clap.specs.Words.{found_of, kind_of, rows_of, subcommand_rows_of};
-ghost use Rattle.tool_work.specs.Asked.{AreAdmitted, AreEndpointsOf, HasHallWorld, HasMode, HasNumber, HasWorld, IsAsked, IsConfigOf, IsHallOf, HasAddress, HasText, MayHavePort, IsDrawingOf, IsGraceOf, IsHoldingOf, IsHostingOf, IsIdleOf, IsKeepingOf, IsLogOf, IsMisuseOf, IsPlayingOf, IsRacingOf, IsRead, IsRefusal, IsServingOf, IsShowingOf, StoreReads, asks_flag, asks_log, hall_world};
+ghost use Rattle.tool_work.specs.Asked.{AreAdmitted, AreEndpointsOf, HasHallWorld, HasMode, HasNumber, HasWorld, IsAsked, IsConfigOf, IsGiven, IsHallOf, HasAddress, HasText, MayHavePort, IsDrawingOf, IsGraceOf, IsHoldingOf, IsHostingOf, IsIdleOf, IsKeepingOf, IsLogOf, IsMisuseOf, IsPlayingOf, IsRacingOf, IsRead, IsRefusal, IsServingOf, IsShowingOf, StoreReads, asks_flag, asks_log, hall_world};
 ghost use Rattle.model_asked.specs.Config.{is_wide, world_name};
 ghost use Rattle.model_asked.specs.declared.config.Config.{Config};
 ghost use Rattle.model_asked.specs.declared.kind.WorldKind.{WorldKind};
@@ -43,11 +43,18 @@ fn typed_world(name: &str) -> Option<WorldKind>
     }
 }
 
+// The text that is matched for an option, where there is one.
+fn text_given<'a>(matches: &ArgMatches<'a>, name: &str) -> Option<&'a str>
+    ensures { HasText (rows_of (found_of matches.now)) name.now result }
+{
+    matches.get_str(name)
+}
+
 // The world that is matched.
 fn world_given(matches: &ArgMatches<'_>) -> Option<WorldKind>
-    ensures { MatchOption result ((w : WorldKind) → HasWorld (rows_of (found_of matches.now)) w → ⊥) (HasWorld (rows_of (found_of matches.now))) }
+    ensures { IsGiven HasWorld (rows_of (found_of matches.now)) result }
 {
-    typed_world(matches.get_str("world")?)
+    typed_world(text_given(matches, "world")?)
 }
 
 // The number that is matched for an option.
@@ -67,7 +74,7 @@ fn flag_given(matches: &ArgMatches<'_>, name: &str) -> bool
 
 // The config that the options of `play` or of `serve` give, where they give one.
 fn config_given(matches: &ArgMatches<'_>) -> Option<Config>
-    ensures { MatchOption result ((c : Config) → IsConfigOf (rows_of (found_of matches.now)) c → ⊥) (IsConfigOf (rows_of (found_of matches.now))) }
+    ensures { IsGiven IsConfigOf (rows_of (found_of matches.now)) result }
 {
     let world = world_given(matches)?;
     let m = number_given(matches, "m")?;
@@ -78,7 +85,7 @@ fn config_given(matches: &ArgMatches<'_>) -> Option<Config>
 
 // What the options of `play` give, where they give something.
 fn play_given(matches: &ArgMatches<'_>) -> Option<Playing>
-    ensures { MatchOption result ((p : Playing) → IsPlayingOf (rows_of (found_of matches.now)) p → ⊥) (IsPlayingOf (rows_of (found_of matches.now))) }
+    ensures { IsGiven IsPlayingOf (rows_of (found_of matches.now)) result }
 {
     let config = config_given(matches)?;
     Playing::new(config, flag_given(matches, "record"))
@@ -89,7 +96,7 @@ const DRAWN_POOL: u64 = 4;
 
 // What the options of `draw` give, where they give something.
 fn draw_given(matches: &ArgMatches<'_>) -> Option<Drawing>
-    ensures { MatchOption result ((d : Drawing) → IsDrawingOf (rows_of (found_of matches.now)) d → ⊥) (IsDrawingOf (rows_of (found_of matches.now))) }
+    ensures { IsGiven IsDrawingOf (rows_of (found_of matches.now)) result }
 {
     let seed = number_given(matches, "seed")?;
     let ids = number_given(matches, "ids")?;
@@ -105,7 +112,7 @@ fn draw_given(matches: &ArgMatches<'_>) -> Option<Drawing>
 
 // What the options of `show` give, where they give something.
 fn show_given(matches: &ArgMatches<'_>) -> Option<Showing>
-    ensures { MatchOption result ((s : Showing) → IsShowingOf (rows_of (found_of matches.now)) s → ⊥) (IsShowingOf (rows_of (found_of matches.now))) }
+    ensures { IsGiven IsShowingOf (rows_of (found_of matches.now)) result }
 {
     let from = number_given(matches, "from")?;
     let count = number_given(matches, "count")?;
@@ -114,7 +121,7 @@ fn show_given(matches: &ArgMatches<'_>) -> Option<Showing>
 
 // What the options of `race` give, where they give something.
 fn race_given(matches: &ArgMatches<'_>) -> Option<Racing>
-    ensures { MatchOption result ((r : Racing) → IsRacingOf (rows_of (found_of matches.now)) r → ⊥) (IsRacingOf (rows_of (found_of matches.now))) }
+    ensures { IsGiven IsRacingOf (rows_of (found_of matches.now)) result }
 {
     let threads = number_given(matches, "threads")?;
     let rounds = number_given(matches, "rounds")?;
@@ -124,7 +131,7 @@ fn race_given(matches: &ArgMatches<'_>) -> Option<Racing>
 
 // What the options of `serve` give, where they give something.
 fn serve_given(matches: &ArgMatches<'_>) -> Option<Serving>
-    ensures { MatchOption result ((s : Serving) → IsServingOf (rows_of (found_of matches.now)) s → ⊥) (IsServingOf (rows_of (found_of matches.now))) }
+    ensures { IsGiven IsServingOf (rows_of (found_of matches.now)) result }
 {
     let config = config_given(matches)?;
     let port = number_given(matches, "port")?;
@@ -138,7 +145,7 @@ fn address_given(matches: &ArgMatches<'_>, name: &str) -> Option<IpAddr>
     ensures { MatchOption result ((a : IpAddr) → HasAddress (rows_of (found_of matches.now)) name.now a → ⊥)
         (HasAddress (rows_of (found_of matches.now)) name.now) }
 {
-    matches.get_str(name)?.parse::<IpAddr>().ok()
+    text_given(matches, name)?.parse::<IpAddr>().ok()
 }
 
 // A number as a port, where it is one.
@@ -160,16 +167,10 @@ fn port_given(matches: &ArgMatches<'_>, name: &str) -> Option<u16>
 
 // The mode that is matched, where it is octal digits.
 fn mode_given(matches: &ArgMatches<'_>) -> Option<u64>
-    ensures { MatchOption result ((m : ℕ) → m < 2 ^ 64 → HasMode (rows_of (found_of matches.now)) m → ⊥) (HasMode (rows_of (found_of matches.now))) }
+    ensures { MatchOption result ((m : ℕ) → m < 2 ^ 64 → HasMode (rows_of (found_of matches.now)) m → ⊥)
+        (HasMode (rows_of (found_of matches.now))) }
 {
-    u64::from_str_radix(matches.get_str("mode")?, 8).ok()
-}
-
-// The text that is matched for an option, where there is one.
-fn text_given<'a>(matches: &ArgMatches<'a>, name: &str) -> Option<&'a str>
-    ensures { HasText (rows_of (found_of matches.now)) name.now result }
-{
-    matches.get_str(name)
+    u64::from_str_radix(text_given(matches, "mode")?, 8).ok()
 }
 
 // Whether an option that only a log has is matched.
@@ -184,7 +185,7 @@ fn log_asked(matches: &ArgMatches<'_>) -> bool
 
 // The log that the options of `host` give, where they give one.
 fn log_given<'a>(matches: &ArgMatches<'a>) -> Option<LogWords<'a>>
-    ensures { MatchOption result ((l : LogWords) → IsLogOf (rows_of (found_of matches.now)) l → ⊥) (IsLogOf (rows_of (found_of matches.now))) }
+    ensures { IsGiven IsLogOf (rows_of (found_of matches.now)) result }
 {
     let members = text_given(matches, "etcd")?;
     let prefix = text_given(matches, "prefix")?;
@@ -197,7 +198,7 @@ fn log_given<'a>(matches: &ArgMatches<'a>) -> Option<LogWords<'a>>
 // The same, where an option is matched that only a log has.
 fn log_kept<'a>(matches: &ArgMatches<'a>) -> Option<Keeping<'a>>
     requires { asks_log (rows_of (found_of matches.now)) ≡ true }
-    ensures { MatchOption result ((k : Keeping) → IsKeepingOf (rows_of (found_of matches.now)) k → ⊥) (IsKeepingOf (rows_of (found_of matches.now))) }
+    ensures { IsGiven IsKeepingOf (rows_of (found_of matches.now)) result }
 {
     match (text_given(matches, "journal"), flag_given(matches, "new")) {
         (None, false) => Some(Keeping::Log(log_given(matches)?)),
@@ -208,7 +209,7 @@ fn log_kept<'a>(matches: &ArgMatches<'a>) -> Option<Keeping<'a>>
 
 // Where the options of `host` have the history kept, where they say so in one way.
 fn keeping_given<'a>(matches: &ArgMatches<'a>) -> Option<Keeping<'a>>
-    ensures { MatchOption result ((k : Keeping) → IsKeepingOf (rows_of (found_of matches.now)) k → ⊥) (IsKeepingOf (rows_of (found_of matches.now))) }
+    ensures { IsGiven IsKeepingOf (rows_of (found_of matches.now)) result }
 {
     if log_asked(matches) {
         return log_kept(matches);
@@ -235,7 +236,7 @@ const MOST_GRACE: u64 = 86_400;
 
 // The seconds of grace that the options of `host` give, where they give some.
 fn grace_given(matches: &ArgMatches<'_>) -> Option<u64>
-    ensures { MatchOption result ((g : ℕ) → IsGraceOf (rows_of (found_of matches.now)) g → ⊥) (IsGraceOf (rows_of (found_of matches.now))) }
+    ensures { IsGiven IsGraceOf (rows_of (found_of matches.now)) result }
 {
     match number_given(matches, "grace") {
         None => Some(GRACE),
@@ -246,7 +247,7 @@ fn grace_given(matches: &ArgMatches<'_>) -> Option<u64>
 
 // How the options of `host` have stays held, where they say so in one way.
 fn holding_given(matches: &ArgMatches<'_>) -> Option<Holding>
-    ensures { MatchOption result ((h : Holding) → IsHoldingOf (rows_of (found_of matches.now)) h → ⊥) (IsHoldingOf (rows_of (found_of matches.now))) }
+    ensures { IsGiven IsHoldingOf (rows_of (found_of matches.now)) result }
 {
     match text_given(matches, "hold")? {
         "forever" => match number_given(matches, "grace") {
@@ -271,7 +272,7 @@ fn idle_given(matches: &ArgMatches<'_>, holding: Holding) -> u64
 
 // Whether the options of `host` have the history store reads, where they say so.
 fn reads_given(matches: &ArgMatches<'_>) -> Option<bool>
-    ensures { MatchOption result ((stores : Bool) → StoreReads (rows_of (found_of matches.now)) stores → ⊥) (StoreReads (rows_of (found_of matches.now))) }
+    ensures { IsGiven StoreReads (rows_of (found_of matches.now)) result }
 {
     match text_given(matches, "reads")? {
         "logged" => Some(true),
@@ -283,7 +284,7 @@ fn reads_given(matches: &ArgMatches<'_>) -> Option<bool>
 // The world that the options of `host` ask for.
 #[tactic(auto, using(crate::proofs::HostLemmas::hall_world_absent))]
 fn hall_world_given(matches: &ArgMatches<'_>) -> Option<WorldKind>
-    ensures { MatchOption result ((w : WorldKind) → HasHallWorld (rows_of (found_of matches.now)) w → ⊥) (HasHallWorld (rows_of (found_of matches.now))) }
+    ensures { IsGiven HasHallWorld (rows_of (found_of matches.now)) result }
 {
     match text_given(matches, "world") {
         Some(name) => typed_world(name),
@@ -303,7 +304,7 @@ fn hall_world(asked: WorldKind, k: u64) -> WorldKind
 
 // The config of the hall that the options of `host` give, where they give one.
 fn hall_given(matches: &ArgMatches<'_>) -> Option<Config>
-    ensures { MatchOption result ((c : Config) → IsHallOf (rows_of (found_of matches.now)) c → ⊥) (IsHallOf (rows_of (found_of matches.now))) }
+    ensures { IsGiven IsHallOf (rows_of (found_of matches.now)) result }
 {
     let asked = hall_world_given(matches)?;
     let m = number_given(matches, "m")?;
@@ -314,7 +315,7 @@ fn hall_given(matches: &ArgMatches<'_>) -> Option<Config>
 
 // What the options of `host` have clients ask for, where they say so.
 fn admissions_given(matches: &ArgMatches<'_>) -> Option<Admissions>
-    ensures { MatchOption result ((a : Admissions) → AreAdmitted (rows_of (found_of matches.now)) a → ⊥) (AreAdmitted (rows_of (found_of matches.now))) }
+    ensures { IsGiven AreAdmitted (rows_of (found_of matches.now)) result }
 {
     let naming = text_given(matches, "world").is_some();
     match text_given(matches, "admit") {
@@ -332,7 +333,7 @@ fn admissions_given(matches: &ArgMatches<'_>) -> Option<Admissions>
 
 // What the options of `host` have the hall reached by, where they say so.
 fn endpoints_given<'a>(matches: &ArgMatches<'a>) -> Option<Endpoints<'a>>
-    ensures { MatchOption result ((e : Endpoints) → AreEndpointsOf (rows_of (found_of matches.now)) e → ⊥) (AreEndpointsOf (rows_of (found_of matches.now))) }
+    ensures { IsGiven AreEndpointsOf (rows_of (found_of matches.now)) result }
 {
     let address = address_given(matches, "address")?;
     let port = port_given(matches, "port");
@@ -345,7 +346,7 @@ fn endpoints_given<'a>(matches: &ArgMatches<'a>) -> Option<Endpoints<'a>>
 
 // What the options of `host` give, where they give something.
 fn host_given<'a>(matches: &ArgMatches<'a>) -> Option<Hosting<'a>>
-    ensures { MatchOption result ((h : Hosting) → IsHostingOf (rows_of (found_of matches.now)) h → ⊥) (IsHostingOf (rows_of (found_of matches.now))) }
+    ensures { IsGiven IsHostingOf (rows_of (found_of matches.now)) result }
 {
     let config = hall_given(matches)?;
     let admissions = admissions_given(matches)?;

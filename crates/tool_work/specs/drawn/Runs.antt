@@ -1,5 +1,5 @@
 -- runs of drawn schedules, and what is reported of them
-use Rattle.std.specs.Prelude.{◌≡◌, ◌≢◌, ℕ, ◌+◌, ◌%◌, ◌^◌, ◌<◌, ◌≤◌, List, [], ◌∷◌, ◌++◌, map, length, codes, decimal, slice_index_or, Option, IfSome}
+use Rattle.std.specs.Prelude.{◌≡◌, ◌≢◌, ℕ, ◌+◌, ◌%◌, ◌^◌, ◌<◌, ◌≤◌, List, [], ◌∷◌, ◌++◌, map, length, codes, decimal, slice_index_or, ◌⊎◌, Option, IfSome, Result, Err, IfErr, OnOk}
 use Rattle.model_steps.specs.declared.refusal.Refusal.TheVariants as refusal
 use Rattle.model_asked.specs.declared.config.Config.{Config}
 use Rattle.model_asked.specs.declared.event.Event.{Event}
@@ -14,6 +14,8 @@ use Rattle.tool_work.specs.declared.drawn.tally.Tally.{Tally}
 use Rattle.tool_work.specs.drawn.Schedule.{schedule}
 use Rattle.tool_work.specs.drawn.Tally.{IsTallyOf, how_many, is_named, is_spent}
 use Rattle.text_lines.specs.Written.{HasPartOf}
+use Rattle.text_lines.specs.declared.fault.Fault.{Fault}
+use Rattle.text_lines.specs.declared.fault.Fault.TheVariants.{Write, Memory}
 
 -- no growth was refused
 abbrev pub IsAmple : List Exchange → Type 0
@@ -79,3 +81,11 @@ pub record HasDrawn (config : Config) (seed ids n count : ℕ) (Reported : List 
 -- at most so many runs were made, of whose lines the writer has gained a prefix
 abbrev pub HasDrawnPart : Config → ℕ → ℕ → ℕ → ℕ → Option (List ℕ) → Option (List ℕ) → Type 0
 HasDrawnPart config seed ids n most before now = (count : ℕ) × (count ≤ most) × HasDrawn config seed ids n count (HasPartOf before now)
+
+-- so a result tells of the writes, of which so many had failed before and so many have now: one failed, or an allocation and none, or all went
+-- well
+pub record TellsWrites (before now : ℕ) (result : Result (Unit {0}) Fault) : Type 0 where
+  pub only : IfErr result (λ fault. (fault ≡ Write) ⊎ (fault ≡ Memory))
+  pub failed : result ≡ Err Write → before < now
+  pub memory : result ≡ Err Memory → now ≡ before
+  pub unfailed : OnOk result (now ≡ before)

@@ -5,7 +5,7 @@ ghost use Rattle.std.specs.Io.KnownBytes.{Appends};
 ghost use Rattle.model_asked.specs.Config.{gives_names};
 ghost use Rattle.text_lines.specs.Events.{event_lines};
 ghost use Rattle.text_lines.specs.Written.{HasPartOf};
-ghost use Rattle.tool_work.specs.drawn.Runs.{HasDrawn, HasDrawnPart};
+ghost use Rattle.tool_work.specs.drawn.Runs.{HasDrawn, HasDrawnPart, TellsWrites};
 ghost use Rattle.tool_work.specs.drawn.Schedule.{schedule};
 
 use crate::drawn::runs::play_schedules;
@@ -61,10 +61,7 @@ pub fn play_drawn<A: Allocator + Clone, W: Sink>(
     requires writes { W.calls writer.old < 2 ^ 64 }
     ensures ok { OnOk result (HasDrawn config seed ids steps runs (Appends (W.contents writer.old) (W.contents writer.new))) }
     ensures part { OnErr result (HasDrawnPart config seed ids steps runs (W.contents writer.old) (W.contents writer.new)) }
-    ensures only { IfErr result (λ fault. (fault ≡ Fault.Write) ⊎ (fault ≡ Fault.Memory)) }
-    ensures failed { result ≡ Err Fault.Write → W.failed writer.old < W.failed writer.new }
-    ensures memory { result ≡ Err Fault.Memory → W.failed writer.new ≡ W.failed writer.old }
-    ensures unfailed { OnOk result (W.failed writer.new ≡ W.failed writer.old) }
+    ensures told { TellsWrites (W.failed writer.old) (W.failed writer.new) result }
 {
     play_schedules(alloc, Schedule { seed, ids, steps }, runs, config, writer)
 }

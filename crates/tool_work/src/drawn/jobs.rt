@@ -1,9 +1,9 @@
 //! Drawn runs by many threads.
 
-ghost use Rattle.std.specs.Prelude.{◌≡◌, ◌<◌, ◌≤◌, ◌+◌, ◌^◌, ◌⊎◌, ℕ, Option, Err, true, length, slice_index_or, IfErr, OnOk, OnErr};
+ghost use Rattle.std.specs.Prelude.{◌≡◌, ◌<◌, ◌≤◌, ◌+◌, ◌^◌, ℕ, Option, true, length, slice_index_or, OnOk, OnErr};
 ghost use Rattle.std.specs.Io.KnownBytes.{Appends};
 ghost use Rattle.model_asked.specs.Config.{gives_names};
-ghost use Rattle.tool_work.specs.drawn.Runs.{HasDrawn, HasDrawnPart, IsReportedOf};
+ghost use Rattle.tool_work.specs.drawn.Runs.{HasDrawn, HasDrawnPart, IsReportedOf, TellsWrites};
 ghost use Rattle.tool_work.specs.declared.drawn.tally.Tally.{Tally};
 
 use crate::drawn::runs::{play_schedules, play_share, write_tallies};
@@ -80,10 +80,7 @@ pub fn play_drawn_by<R: Threads + Sync, W: Sink>(
     requires writes { W.calls writer.old < 2 ^ 64 }
     ensures ok { OnOk result (HasDrawn config plan.seed plan.ids plan.steps runs (Appends (W.contents writer.old) (W.contents writer.new))) }
     ensures part { OnErr result (HasDrawnPart config plan.seed plan.ids plan.steps runs (W.contents writer.old) (W.contents writer.new)) }
-    ensures only { IfErr result (λ fault. (fault ≡ Fault.Write) ⊎ (fault ≡ Fault.Memory)) }
-    ensures failed { result ≡ Err Fault.Write → W.failed writer.old < W.failed writer.new }
-    ensures memory { result ≡ Err Fault.Memory → W.failed writer.new ≡ W.failed writer.old }
-    ensures unfailed { OnOk result (W.failed writer.new ≡ W.failed writer.old) }
+    ensures told { TellsWrites (W.failed writer.old) (W.failed writer.new) result }
 {
     let jobs = jobs_for(rt, jobs);
     if jobs == 1 {

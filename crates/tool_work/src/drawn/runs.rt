@@ -1,13 +1,13 @@
 //! Runs of drawn schedules.
 
-ghost use Rattle.std.specs.Prelude.{◌≡◌, ◌<◌, ◌≤◌, ◌+◌, ◌^◌, ◌⊎◌, [], ◌∷◌, ◌++◌, ℕ, List, Option, Err, length, true, slice_index_or, IfOk, IfErr, OnOk, OnErr};
+ghost use Rattle.std.specs.Prelude.{◌≡◌, ◌<◌, ◌≤◌, ◌+◌, ◌^◌, [], ◌∷◌, ◌++◌, ℕ, List, Option, length, true, slice_index_or, IfOk, IfErr, OnOk, OnErr};
 ghost use Rattle.std.specs.Io.KnownBytes.{Appends};
 ghost use Rattle.model_asked.specs.declared.config.Config.{Config};
 ghost use Rattle.model_asked.specs.declared.exchange.Exchange.{Exchange};
 ghost use Rattle.model_asked.specs.Config.{gives_names};
 ghost use Rattle.text_worlds.specs.desk.Desk.{IsFreshDesk};
 ghost use Rattle.tool_work.specs.drawn.Schedule.{begins_from, opened, steps_drawn};
-ghost use Rattle.tool_work.specs.drawn.Runs.{AreReported, HasDrawn, HasDrawnPart, IsDrawnRun, IsReportedOf, PlaysFrom, numbers_line};
+ghost use Rattle.tool_work.specs.drawn.Runs.{AreReported, HasDrawn, HasDrawnPart, IsDrawnRun, IsReportedOf, PlaysFrom, TellsWrites, numbers_line};
 ghost use Rattle.tool_work.specs.drawn.Tally.{IsTallyOf};
 ghost use Rattle.tool_work.specs.declared.drawn.tally.Tally.{Tally};
 
@@ -177,10 +177,7 @@ pub fn play_schedules<A: Allocator + Clone, W: Sink>(
     requires writes { W.calls writer.old < 2 ^ 64 }
     ensures ok { OnOk result (HasDrawn config plan.seed plan.ids plan.steps runs (Appends (W.contents writer.old) (W.contents writer.new))) }
     ensures part { OnErr result (HasDrawnPart config plan.seed plan.ids plan.steps runs (W.contents writer.old) (W.contents writer.new)) }
-    ensures only { IfErr result (λ fault. (fault ≡ Fault.Write) ⊎ (fault ≡ Fault.Memory)) }
-    ensures failed { result ≡ Err Fault.Write → W.failed writer.old < W.failed writer.new }
-    ensures memory { result ≡ Err Fault.Memory → W.failed writer.new ≡ W.failed writer.old }
-    ensures unfailed { OnOk result (W.failed writer.new ≡ W.failed writer.old) }
+    ensures told { TellsWrites (W.failed writer.old) (W.failed writer.new) result }
 {
     let Ok(other) = alloc.clone() else {
         return Err(Fault::Memory);
@@ -242,10 +239,7 @@ pub(crate) fn write_tallies<A: Allocator, W: Sink>(
         HasDrawn config seed ids n (length tallies.now) (Appends (W.contents writer.old) (W.contents writer.new))) }
     ensures part { OnErr result ((config : Config) (seed ids n : ℕ) → AreReported config seed ids n tallies.now →
         HasDrawnPart config seed ids n (length tallies.now) (W.contents writer.old) (W.contents writer.new)) }
-    ensures only { IfErr result (λ fault. (fault ≡ Fault.Write) ⊎ (fault ≡ Fault.Memory)) }
-    ensures failed { result ≡ Err Fault.Write → W.failed writer.old < W.failed writer.new }
-    ensures memory { result ≡ Err Fault.Memory → W.failed writer.new ≡ W.failed writer.old }
-    ensures unfailed { OnOk result (W.failed writer.new ≡ W.failed writer.old) }
+    ensures told { TellsWrites (W.failed writer.old) (W.failed writer.new) result }
 {
     let Ok(mut held) = Replies::new(alloc) else {
         return Err(Fault::Memory);

@@ -131,7 +131,8 @@ pub fn draw_schedule<A: Allocator, W: Sink>(
     requires writes { W.calls writer.old < 2 ^ 64 }
     ensures ok { OnOk result (Appends (W.contents writer.old) (W.contents writer.new) (event_lines (schedule plan.seed plan.ids plan.steps))) }
     ensures unfailed { OnOk result (W.failed writer.new ≡ W.failed writer.old) }
-    ensures part { result ≡ Err Fault.Write → HasPartOf (W.contents writer.old) (W.contents writer.new) (event_lines (schedule plan.seed plan.ids plan.steps)) }
+    ensures part { result ≡ Err Fault.Write →
+        HasPartOf (W.contents writer.old) (W.contents writer.new) (event_lines (schedule plan.seed plan.ids plan.steps)) }
     ensures failed { result ≡ Err Fault.Write → W.failed writer.old < W.failed writer.new }
     ensures memory { result ≡ Err Fault.Memory → writer.new ≡ writer.old }
     ensures only { IfErr result (λ fault. (fault ≡ Fault.Write) ⊎ (fault ≡ Fault.Memory)) }

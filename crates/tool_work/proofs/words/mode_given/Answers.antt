@@ -1,17 +1,13 @@
-use Rattle.std.proofs.Common.{codes, Some, None, ◌≡◌, ◌∙◌}
-use Rattle.tool_work.proofs.Common.{first_of, found_of, rows_of, first_value-rows}
+use Rattle.tool_work.proofs.Common.{found_of, rows_of}
 use Rattle.tool_work.proofs.ConfigLemmas.{unless_some}
 use Rattle.tool_work.proofs.HostLemmas.{no_mode, mode_reported}
 use Rattle.tool_work.proofs.words.mode_given.Goals as goal
 
-pub returns-in_err-get_str : goal.returns-in_err-get_str
-returns-in_err-get_str c =
-    let rows = rows_of (found_of c.args.matches.now) in
-    let none : None ≡ first_of (codes "mode") rows = rw c.in_err-get_str.was at c.get_str.ensures ∙ first_value-rows (found_of c.args.matches.now) (codes "mode") in
-    unless_some c.from_residual.result _ _ c.from_residual.ensures (no_mode rows none)
+pub returns-in_err-text_given : goal.returns-in_err-text_given
+returns-in_err-text_given c =
+    unless_some c.from_residual.result _ _ c.from_residual.ensures (no_mode (rows_of (found_of c.args.matches.now)) (rw c.in_err-text_given.was at c.text_given.ensures))
 
 pub returns : goal.returns
 returns c =
-    let rows = rows_of (found_of c.args.matches.now) in
-    let matched : Some c.in_ok-get_str.field-0.now ≡ first_of (codes "mode") rows = rw c.in_ok-get_str.was at c.get_str.ensures ∙ first_value-rows (found_of c.args.matches.now) (codes "mode") in
-    rw c.ok.ensures.value (mode_reported rows _ c.from_str_radix.result matched c.from_str_radix.ensures.value)
+    let matched = rw c.in_ok-text_given.was at c.text_given.ensures in
+    rw c.ok.ensures.value (mode_reported (rows_of (found_of c.args.matches.now)) _ c.from_str_radix.result matched c.from_str_radix.ensures.value)

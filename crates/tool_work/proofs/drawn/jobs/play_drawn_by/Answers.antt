@@ -9,7 +9,7 @@ use Rattle.tool_work.proofs.drawn.jobs.play_drawn_by.Goals.{After-drop-tallies}
 pub returns-then-jobs-eq1 : goal.returns-then-jobs-eq1
 returns-then-jobs-eq1 g c =
     let e = c.play_schedules.ensures in
-    record { ok = e.ok; part = e.part; only = e.only; failed = e.failed; memory = e.memory; unfailed = e.unfailed }
+    record { ok = e.ok; part = e.part; told = e.told }
 
 pub returns-in_default-clause-part : goal.returns-in_default-clause-part
 returns-in_default-clause-part g c = (0, omega arith, record { runs = []; drawn = tt; count_is = refl; reported = (0, omega arith, Appends-nil (g.W.Write.contents c.args.writer.now)) })
@@ -33,14 +33,5 @@ returns-clause-part g c = on_err_weaker c.write_tallies.result
     (c.as_slice.ensures.len ∙ c.in-Ok.ensures.len) (part c.args.config c.args.plan.seed c.args.plan.ids c.args.plan.steps (reported g (goal.at.returns-clause-part g c).After-drop-tallies)))
     c.write_tallies.ensures.part
 
-pub returns-clause-only : goal.returns-clause-only
-returns-clause-only g c = c.write_tallies.ensures.only
-
-pub returns-clause-failed : goal.returns-clause-failed
-returns-clause-failed g c = c.write_tallies.ensures.failed
-
-pub returns-clause-memory : goal.returns-clause-memory
-returns-clause-memory g c = c.write_tallies.ensures.memory
-
-pub returns-clause-unfailed : goal.returns-clause-unfailed
-returns-clause-unfailed g c = c.write_tallies.ensures.unfailed
+pub returns-clause-told : goal.returns-clause-told
+returns-clause-told g c = c.write_tallies.ensures.told
