@@ -3,12 +3,20 @@ use Rattle.std.proofs.Common.{◌≡◌, inl, inr, ℕ, ◌<◌, set, List, [], 
 use Rattle.service_loop.proofs.Common.{append-nil, get_or-set_same, get_or-set_other, length-set, cases_eq, eq-eqb, ne_eqb, ShownReply, Request, Runs, runs-append, all-append, all-tagged, of-append, of-same, of-other, Turn}
 use Rattle.std.proofs.KnownBytes.{Consumes-nil, Appends-nil}
 use Rattle.text_player.specs.Shared.{TurnLog, turns_of, all_turns, tagged}
-use Rattle.service_loop.specs.Seats.{Seating, SeatTakes, SeatSends, SeatTurn, SeatSent, TurnsTaken, RepliesSent}
+use Rattle.service_loop.specs.Seats.{Seating, SeatIs, SeatTakes, SeatSends, SeatTurn, SeatSent, TurnsTaken, RepliesSent}
 use Rattle.service_loop.specs.ConnectionBuffers.{TakesOf, SendsTo}
 use Rattle.service_loop.proofs.BuffersLemmas.{takes_idle}
 
 some_same : {C : Type 0} (c d : C) → Some c ≡ Some d → c ≡ d
 some_same c d e = cc
+
+-- where nothing is done whoever sits there is as before, and so is each other
+pub seat_waits : {C : Type 0} (seats : List (Option C)) (key : ℕ) (P : C → Type 0) (now : List (Option C)) (there : Option C) → now ≡ seats → get_or seats key None ≡ there → SeatIs P there →
+    SeatIs P (get_or now key None) × ((i : ℕ) → (i ≡ key → ⊥) → get_or now i None ≡ get_or seats i None)
+seat_waits {C = C} seats key P now there same sits is = (
+  subst (SeatIs P) (sym (ap (λ (s : List (Option C)). get_or s key None) same ∙ sits)) is,
+  λ i other. ap (λ (s : List (Option C)). get_or s i None) same,
+)
 
 module _ {C : Type 0} (on : Seating C) where
   pub seat_rests : (x : Option C) → SeatTakes on [] x x

@@ -32,16 +32,16 @@ some_lf bytes end first = is_false (has_no_lf bytes) (λ none. let e = sym (whol
 
 module _ {A : Type 0} (read : List ℕ → Option A) (bytes : List ℕ) where
   -- no line, one that says nothing, and one that says this
-  pub first_none : IsFirstByte (is_byte 10) bytes None → first_of read (whole_lines bytes) ≡ None
-  first_none nowhere = ap (first_of read) (none_whole bytes nowhere)
+  pub first_none : (o : Option (A × ℕ)) → o ≡ None → IsFirstByte (is_byte 10) bytes None → o ≡ first_of read (whole_lines bytes)
+  first_none o is nowhere = is ∙ sym (ap (first_of read) (none_whole bytes nowhere))
 
-  pub first_other : (end : ℕ) → IsFirstByte (is_byte 10) bytes (Some end) → read (take end bytes) ≡ None → first_of read (whole_lines bytes) ≡ None
-  first_other end first other = ap (first_of read) (first_whole bytes end first) ∙ ap (with_count (take end bytes)) other
+  pub first_other : (o : Option (A × ℕ)) → o ≡ None → (end : ℕ) → IsFirstByte (is_byte 10) bytes (Some end) → None ≡ read (take end bytes) → o ≡ first_of read (whole_lines bytes)
+  first_other o is end first other = is ∙ ap (with_count (take end bytes)) other ∙ sym (ap (first_of read) (first_whole bytes end first))
 
-  pub first_some : (end : ℕ) (what : A) → IsFirstByte (is_byte 10) bytes (Some end) → read (take end bytes) ≡ Some what → first_of read (whole_lines bytes) ≡ Some (what, end + 1)
+  pub first_some : (end : ℕ) (what : A) → IsFirstByte (is_byte 10) bytes (Some end) → Some what ≡ read (take end bytes) → Some (what, end + 1) ≡ first_of read (whole_lines bytes)
   first_some end what first says =
       let long : length (take end bytes) ≡ end = length-take-le end bytes (let lt = first.0.high in omega (arith, lt)) in
-      ap (first_of read) (first_whole bytes end first) ∙ ap (with_count (take end bytes)) says ∙ ap (λ (n : ℕ). Some (what, n + 1)) long
+      ap (λ (n : ℕ). Some (what, n + 1)) (sym long) ∙ ap (with_count (take end bytes)) says ∙ sym (ap (first_of read) (first_whole bytes end first))
 
 -- who gives up twice has given up
 twice : (f : Bool → Bool) (b : Bool) → ((b || f b) || f (b || f b)) ≡ (b || f b)

@@ -1,5 +1,6 @@
 -- which lines of a connection go to a persister before a turn takes them
-use Rattle.std.specs.Prelude.{◌≡◌, ℕ, ◌<◌, ◌||◌, nat_lt, ◌≤◌, if◌then◌else◌, Bool, true, false, List, [], ◌∷◌, ◌++◌, length, get_or, take, Option, Some, None, Result, Ok, Err}
+use Rattle.std.specs.Prelude.{◌≡◌, ℕ, ◌<◌, ◌||◌, nat_lt, ◌≤◌, if◌then◌else◌, Bool, true, false, List, [], ◌∷◌, ◌++◌, length, get_or, take, Option, Result, Ok, Err}
+use Rattle.std.specs.Option.{option_map_or}
 use Rattle.model_asked.specs.declared.bad.Bad.{Bad}
 use Rattle.model_asked.specs.declared.command.Command.{Command}
 use Rattle.model_asked.specs.declared.command.Command.TheVariants as command
@@ -45,31 +46,25 @@ pub record HasPeeked (kind : WorldKind) (long asks : Bool) (batch bytes : List �
 
 -- what was looked at of a connection, if anything was: so many bytes of what waits, and whether the end of what comes is behind them
 abbrev pub bytes_of : Option Peek → ℕ
-bytes_of None = 0
-bytes_of (Some peek) = peek.bytes
+bytes_of peek = option_map_or (λ (p : Peek). p.bytes) peek 0
 
 abbrev pub ends_of : Option Peek → Bool
-ends_of None = false
-ends_of (Some peek) = peek.ends
+ends_of peek = option_map_or (λ (p : Peek). p.ends) peek false
 
 -- whether a line that is longer than any request was begun before; and whether lines of it are reported
 abbrev pub long_of : Option Peek → Bool
-long_of None = false
-long_of (Some peek) = peek.long
+long_of peek = option_map_or (λ (p : Peek). p.long) peek false
 
 abbrev pub asks_of : Option Peek → Bool
-asks_of None = false
-asks_of (Some peek) = peek.asks
+asks_of peek = option_map_or (λ (p : Peek). p.asks) peek false
 
 -- whether a line of it asks who holds numbers
 abbrev pub holds_of : Option Peek → Bool
-holds_of None = false
-holds_of (Some peek) = peek.holds
+holds_of peek = option_map_or (λ (p : Peek). p.holds) peek false
 
 -- whether more than it takes could be taken
 abbrev pub more_of : Option Peek → Bool
-more_of None = false
-more_of (Some peek) = peek.more
+more_of peek = option_map_or (λ (p : Peek). p.more) peek false
 
 -- it takes something, or more than it takes could be taken
 abbrev pub takes_any : Peek → Bool
@@ -77,8 +72,7 @@ takes_any peek = peek.more || peek.ends || nat_lt 0 peek.bytes
 
 -- whether the end of what comes was read, behind all that waits
 abbrev pub at_end_of : Option Peek → Bool
-at_end_of None = false
-at_end_of (Some peek) = peek.at_end
+at_end_of peek = option_map_or (λ (p : Peek). p.at_end) peek false
 
 -- no more and no less was looked at, and an end that was read stays
 abbrev pub IsSameGrant : Option Peek → Option Peek → Type 0

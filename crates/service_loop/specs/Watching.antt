@@ -1,8 +1,8 @@
 -- what those who watch a server are told
 use Rattle.std.specs.Prelude.{ℕ, ◌-◌, Bool, true, ◌&&◌, Option, Some, None, option_map}
-use Rattle.service_loop.specs.declared.persist.Tally.{Tally}
 use Rattle.service_loop.specs.declared.watching.LoopNumbers.{LoopNumbers}
 use Rattle.service_watch.specs.declared.numbers.Numbers.{Numbers}
+use Rattle.service_watch.specs.declared.numbers.Tally.{Tally}
 
 -- a log answers, or there is none
 abbrev pub may_answer : Option Bool → Bool
@@ -13,7 +13,7 @@ may_answer (Some answers) = answers
 abbrev pub age_of : Option ℕ → ℕ → ℕ → Option ℕ
 age_of place tick placed = option_map (λ at. tick - placed) place
 
--- each number of the loop and of the persister stands under its own name
+-- each number of the loop stands under its own name, and those of the persister stand as it tells them
 abbrev pub numbers_of : LoopNumbers → Tally → ℕ → Numbers
 numbers_of loops tally placed = record {
   clients = loops.clients;
@@ -25,15 +25,6 @@ numbers_of loops tally placed = record {
   refusals = loops.refusals;
   audit_lines_lost = loops.audit_lines_lost;
   ready = loops.learnt && may_answer tally.log_answers;
-  events = tally.events;
-  events_left = tally.events_left;
-  compactions = tally.compactions;
-  competitors = tally.competitors;
-  numbers_free = tally.numbers_free;
-  names_given = tally.names_given;
-  journal_bytes = tally.journal_bytes;
-  syncs = tally.syncs;
-  log_place = tally.log_place;
-  log_since_compaction = tally.log_since_compaction;
+  tally = tally;
   log_age = age_of tally.log_place loops.ticks placed;
 }

@@ -25,7 +25,8 @@ fn answer_at<D, K: Persist<D>, S: Stream, A: Allocator, B: Allocator>(
 )
     requires { AreShared shared.old }
     ensures answered { (seats.new ≡ seats.old) ⊎
-        SeatAnswered (seats_of S.left S.gone) (query_text terms (K.holds persister.now service.now)) (λ c. c.stage ≡ ConnectionStage.Idle) key seats.old seats.new }
+        SeatAnswered (seats_of S.left S.gone) (query_text terms (K.holds persister.now service.now)) (λ c. c.stage ≡ ConnectionStage.Idle)
+        key seats.old seats.new }
     ensures room { AreShared shared.new }
 {
     if key < seats.len() {

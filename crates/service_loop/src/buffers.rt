@@ -47,7 +47,14 @@ impl<A: Allocator> Model for Buffers<A> {
 
     ghost Value = { BuffersState };
 
-    ghost view = { λ w. record { responder = w.responder; inbox = w.inbox.items; outbox = w.outbox.items; ended = w.ended; broken = w.broken; in_line = w.in_line } };
+    ghost view = { λ w. record {
+      responder = w.responder;
+      inbox = w.inbox.items;
+      outbox = w.outbox.items;
+      ended = w.ended;
+      broken = w.broken;
+      in_line = w.in_line;
+    } };
 
     ghost invariant = { λ w. (length w.inbox.items ≤ 65536) × (length w.outbox.items ≤ 65536) };
 }

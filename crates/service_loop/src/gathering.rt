@@ -265,8 +265,8 @@ pub fn iterate_prefetched<R, D: Service<R>, K: Persist<D>, S: Stream, A: Allocat
     requires knows { (q : Request) → D.knows q ≡ true }
     requires room { AreShared shared.old }
     ensures served { (called : ℕ) → result ≡ Ok (Called.Served called) →
-        (turned : PrefetchedIteration (seats_of S.left S.gone) (λ c. c.peek) (λ c. c.stage ≡ ConnectionStage.Queued) D.may K.prefetches K.persists batch.old.kind
-        (take called ready.now) persister.old service.old.service seats.old batch.new.lines.items persister.new service.new.service seats.new) ×
+        (turned : PrefetchedIteration (seats_of S.left S.gone) (λ c. c.peek) (λ c. c.stage ≡ ConnectionStage.Queued) D.may K.prefetches K.persists
+        batch.old.kind (take called ready.now) persister.old service.old.service seats.old batch.new.lines.items persister.new service.new.service seats.new) ×
         Hears (acts_in (number_at numbers.now) turned.turn.log) service.old service.new }
     ensures unserved { (called : ℕ) → result ≡ Ok (Called.Unserved called) →
         NotPrefetched (seats_of S.left S.gone) (λ c. c.peek) (λ c. c.stage ≡ ConnectionStage.Queued) batch.old.kind (take called ready.now)

@@ -21,7 +21,7 @@ use crate::connections::ConnectionTable;
 use crate::doors::{Accepted, Doors};
 use crate::gathering::{Batch, Called, iterate_prefetched};
 use crate::host_fault::HostFault;
-use crate::persist::{Persist, Tally};
+use crate::persist::Persist;
 use crate::releasing::end_due;
 use crate::shared::SharedBuffers;
 use crate::socket::Socket;
@@ -35,8 +35,8 @@ use mio::net::TcpListener;
 use mio::unix::SourceFd;
 use mio::{Events, Interest, Poll, Token};
 use model_asked::WorldKind;
-use service_watch::Scrapers;
 use service_watch::listeners::Listeners;
+use service_watch::{Scrapers, Tally};
 use std::alloc::{AllocError, Global};
 use std::io::{self, ErrorKind, Write};
 use std::net::Net;
@@ -936,7 +936,8 @@ impl Hosting {
 
     // What the loop itself knows.
     fn numbers(&self, audit: &Audit) -> LoopNumbers
-        ensures clients { (result.clients ≡ self.now.connections.«open») × (result.accepted ≡ capped (self.now.connections.served + self.now.connections.«open»)) }
+        ensures clients { (result.clients ≡ self.now.connections.«open») ×
+            (result.accepted ≡ capped (self.now.connections.served + self.now.connections.«open»)) }
         ensures faults { result.faults ≡ self.now.connections.faults }
         ensures ticks { result.ticks ≡ self.now.tick }
         ensures ready { result.learnt ≡ not self.now.lost }

@@ -1,76 +1,16 @@
 //! What is kept of a turn before its replies go out.
 
-ghost use Rattle.std.specs.Prelude.{◌≡◌, ◌≤◌, ◌+◌, ◌++◌, ℕ, Bool, true, List, None, is_some, length, OnOk};
+ghost use Rattle.std.specs.Prelude.{◌≡◌, ◌≤◌, ◌+◌, ◌++◌, ℕ, Bool, true, List, is_some, length, OnOk};
 ghost use Rattle.model_pool.specs.Competitors.{stay_of};
 ghost use Rattle.text_lines.specs.declared.replies.TheConstants.{HELD_REPLIES};
 ghost use Rattle.model_pool.specs.slots.SlotsState.{SlotsState};
 ghost use Rattle.text_lines.specs.held.Held.{held_text};
 ghost use Rattle.text_lines.specs.declared.held.telling.TheConstants.{HELD_ROOM};
 
-use service_watch::durations::DurationHistogram;
+use service_watch::Tally;
 use std::alloc::Allocator;
 use text_lines::held::{HELD_ROOM, HeldQuery};
 use text_lines::{HELD_REPLIES, Replies};
-
-/// What a service and its persister tell of themselves to whoever looks on. What does not apply there, or is not known, is none.
-#[derive(Clone, Copy, Debug, Drop, PartialEq, Eq)]
-pub struct Tally {
-    /// How many events the history has.
-    pub events: u64,
-    /// How many more it takes.
-    pub events_left: Option<u64>,
-    /// How often the history was compacted since the start.
-    pub compactions: Option<u64>,
-    /// How many identities compete for numbers, those that hold one among them.
-    pub competitors: Option<u64>,
-    /// How many numbers nobody holds.
-    pub numbers_free: Option<u64>,
-    /// How many names are given.
-    pub names_given: Option<u64>,
-    /// How many bytes of a journal are kept.
-    pub journal_bytes: Option<u64>,
-    /// How long the syncs of a journal took.
-    pub syncs: Option<DurationHistogram>,
-    /// How many entries of a log are applied.
-    pub log_place: Option<u64>,
-    /// How many of them since the last compaction.
-    pub log_since_compaction: Option<u64>,
-    /// Whether the log answered when it was last asked.
-    pub log_answers: Option<bool>,
-}
-
-impl Tally {
-    /// Nothing is known but how many events there are.
-    pub fn of_events(events: u64) -> Tally
-        ensures { result ≡ record {
-          events = events;
-          events_left = None;
-          compactions = None;
-          competitors = None;
-          numbers_free = None;
-          names_given = None;
-          journal_bytes = None;
-          syncs = None;
-          log_place = None;
-          log_since_compaction = None;
-          log_answers = None;
-        } }
-    {
-        Tally {
-            events,
-            events_left: None,
-            compactions: None,
-            competitors: None,
-            numbers_free: None,
-            names_given: None,
-            journal_bytes: None,
-            syncs: None,
-            log_place: None,
-            log_since_compaction: None,
-            log_answers: None,
-        }
-    }
-}
 
 /// Whether a persister has prefetched the answers to the lines that it got.
 #[derive(Clone, Copy, Debug, Drop, PartialEq, Eq)]

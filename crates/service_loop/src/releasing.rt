@@ -45,7 +45,8 @@ fn search_to_number<R, D: Service<R>>(
     wide: bool,
 )
     requires { (q : Request) → D.knows q ≡ true }
-    ensures { (turns : List Turn) × AreProbes wide identity turns × Runs D.may service.old.service turns service.new.service × Hears [] service.old service.new }
+    ensures { (turns : List Turn) × AreProbes wide identity turns × Runs D.may service.old.service turns service.new.service ×
+        Hears [] service.old service.new }
 {
     for _tries in 0..most_said(wide) {
         let reply = service.apply(rt, searching(wide, identity), view);

@@ -63,7 +63,8 @@ fn take_one<R, D: Service<R>>(
 ) -> Took
     requires { (q : Request) → D.knows q ≡ true }
     ensures { (turns : List Turn) × Runs D.may service.old turns service.new ×
-        (taking : IsTaking wide identity turns (with_view result.answer view.new)) × (length taking.more ≡ result.searches) × (result.searches ≤ most_said wide) }
+        (taking : IsTaking wide identity turns (with_view result.answer view.new)) × (length taking.more ≡ result.searches) ×
+        (result.searches ≤ most_said wide) }
 {
     let most = most_said(wide);
     let mut answer = service.apply(rt, Event::Enter(identity), view);
@@ -124,7 +125,8 @@ fn take_number_at<R, D: Service<R>, S: Stream, A: Allocator, B: Allocator>(
     requires knows { (q : Request) → D.knows q ≡ true }
     requires room { AreShared shared.old }
     ensures took { ((service.new ≡ service.old) × (seats.new ≡ seats.old)) ⊎
-        ((turn : SeatTook (seats_of S.left S.gone) wide ahead D.may (λ c. c.stage ≡ ConnectionStage.Idle) key service.old.service seats.old service.new.service seats.new) ×
+        ((turn : SeatTook (seats_of S.left S.gone) wide ahead D.may (λ c. c.stage ≡ ConnectionStage.Idle) key
+        service.old.service seats.old service.new.service seats.new) ×
         Hears (acts_of number turn.turns) service.old service.new) }
     ensures room { AreShared shared.new }
 {

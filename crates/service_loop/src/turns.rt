@@ -35,7 +35,8 @@ fn take_at<R, D: Service<R>, S: Stream, A: Allocator, B: Allocator>(
     requires knows { (q : Request) → D.knows q ≡ true }
     requires room { AreShared shared.old }
     ensures took { ((service.new ≡ service.old) × (seats.new ≡ seats.old)) ⊎
-        ((turn : SeatTurn (seats_of S.left S.gone) D.may (λ c. c.stage ≡ ConnectionStage.Queued) key service.old.service seats.old service.new.service seats.new) ×
+        ((turn : SeatTurn (seats_of S.left S.gone) D.may (λ c. c.stage ≡ ConnectionStage.Queued) key
+        service.old.service seats.old service.new.service seats.new) ×
         Hears (acts_of number turn.turns) service.old service.new) }
     ensures done { SeatIs (λ c. c.stage ≡ ConnectionStage.Queued → ⊥) (get_or seats.new key None) }
     ensures all { (seats.new ≡ seats.old) ⊎ SeatIs (λ c. HasTakenAll c.buffers) (get_or seats.new key None) }
@@ -105,7 +106,8 @@ pub fn send_replies<S: Stream, A: Allocator>(
     called: &[usize],
 )
     ensures sent { RepliesSent (seats_of S.left S.gone) seats.old seats.new }
-    ensures rest { EachIs (λ c. c.stage ≡ ConnectionStage.Queued → ⊥) called.now seats.old → EachIs (λ c. c.stage ≡ ConnectionStage.Idle) called.now seats.new }
+    ensures rest { EachIs (λ c. c.stage ≡ ConnectionStage.Queued → ⊥) called.now seats.old →
+        EachIs (λ c. c.stage ≡ ConnectionStage.Idle) called.now seats.new }
 {
     for key in called {
         send_at(seats, *key);

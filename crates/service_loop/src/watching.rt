@@ -3,8 +3,7 @@
 ghost use Rattle.std.specs.Prelude.{◌≡◌};
 ghost use Rattle.service_loop.specs.Watching.{age_of, may_answer, numbers_of};
 
-use crate::persist::Tally;
-use service_watch::{Numbers, REFUSALS, Releases, Scrapers};
+use service_watch::{Numbers, REFUSALS, Releases, Scrapers, Tally};
 use std::io;
 use std::net::SocketAddr;
 
@@ -134,16 +133,7 @@ impl Watch {
             refusals: loops.refusals,
             audit_lines_lost: loops.audit_lines_lost,
             ready: loops.learnt && may_answer(tally.log_answers),
-            events: tally.events,
-            events_left: tally.events_left,
-            compactions: tally.compactions,
-            competitors: tally.competitors,
-            numbers_free: tally.numbers_free,
-            names_given: tally.names_given,
-            journal_bytes: tally.journal_bytes,
-            syncs: tally.syncs,
-            log_place: tally.log_place,
-            log_since_compaction: tally.log_since_compaction,
+            tally: *tally,
             log_age: age_of(tally.log_place, loops.ticks, self.placed),
         }
     }

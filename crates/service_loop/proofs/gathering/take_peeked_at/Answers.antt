@@ -5,6 +5,7 @@ use Rattle.service_loop.proofs.Common.{get_or_default, get_or-set_same, get_or-s
 use Rattle.service_loop.specs.declared.connection.ConnectionStage.TheVariants as stage
 use Rattle.service_loop.specs.SharedBuffers.{AreShared}
 use Rattle.service_loop.proofs.ReportedLemmas.{seat_turn_peeked}
+use Rattle.service_loop.proofs.SeatLemmas.{seat_waits}
 use Rattle.service_loop.proofs.AttendedLemmas.{runs_listened}
 use Rattle.service_loop.proofs.gathering.take_peeked_at.Goals as goal
 
@@ -42,31 +43,23 @@ pub returns-in-Queued-clause-room : goal.returns-in-Queued-clause-room
 returns-in-Queued-clause-room g c = subst (λ s. AreShared s) (sym c.note_turn.ensures) c.take_peeked.ensures.room
 
 pub returns-else-key-seats : goal.returns-else-key-seats
-returns-else-key-seats g c = record {
-  took = inl (refl, refl);
-  done = subst (λ x. SeatIs (λ q. q.stage ≡ stage.Queued → ⊥) x) (sym (get_or_past c.args.seats.now c.args.key None c.if-key-seats.false)) tt;
-  others = λ i other. refl;
-  room = c.requires.room;
-}
+returns-else-key-seats g c =
+    let seats = c.args.seats.now in
+    let rest = seat_waits seats c.args.key (λ q. q.stage ≡ stage.Queued → ⊥) seats None refl (get_or_past seats c.args.key None c.if-key-seats.false) tt in
+    record { took = inl (refl, refl); done = rest.0; others = rest.1; room = c.requires.room }
 
 pub returns-in_default : goal.returns-in_default
 returns-in_default g c =
-    let back = set-get_or c.args.seats.now c.args.key c.index-seats-key.result in
-    let there = get_or_default c.args.seats.now c.args.key None c.index-seats-key.result c.if-key-seats.true ∙ c.in_default.is in
-    record {
-      took = inl (refl, back);
-      done = subst (λ x. SeatIs (λ q. q.stage ≡ stage.Queued → ⊥) x) (sym (ap (λ x. get_or x c.args.key None) back ∙ there)) tt;
-      others = λ i other. ap (λ x. get_or x i None) back;
-      room = c.requires.room;
-    }
+    let seats = c.args.seats.now in
+    let back = set-get_or seats c.args.key c.index-seats-key.result in
+    let there = get_or_default seats c.args.key None c.index-seats-key.result c.if-key-seats.true ∙ c.in_default.is in
+    let rest = seat_waits seats c.args.key (λ q. q.stage ≡ stage.Queued → ⊥) _ None back there tt in
+    record { took = inl (refl, back); done = rest.0; others = rest.1; room = c.requires.room }
 
 pub returns-in_default-stage : goal.returns-in_default-stage
 returns-in_default-stage g c =
-    let back = subst (λ x. set c.args.seats.now c.args.key x ≡ c.args.seats.now) c.in-Some.is (set-get_or c.args.seats.now c.args.key c.index-seats-key.result) in
-    let there = get_or_default c.args.seats.now c.args.key None c.index-seats-key.result c.if-key-seats.true ∙ c.in-Some.is in
-    record {
-      took = inl (refl, back);
-      done = subst (λ x. SeatIs (λ q. q.stage ≡ stage.Queued → ⊥) x) (sym (ap (λ x. get_or x c.args.key None) back ∙ there)) c.in_default-stage.not-Queued;
-      others = λ i other. ap (λ x. get_or x i None) back;
-      room = c.requires.room;
-    }
+    let seats = c.args.seats.now in
+    let back = subst (λ x. set seats c.args.key x ≡ seats) c.in-Some.is (set-get_or seats c.args.key c.index-seats-key.result) in
+    let there = get_or_default seats c.args.key None c.index-seats-key.result c.if-key-seats.true ∙ c.in-Some.is in
+    let rest = seat_waits seats c.args.key (λ q. q.stage ≡ stage.Queued → ⊥) _ (Some c.in-Some.connection) back there c.in_default-stage.not-Queued in
+    record { took = inl (refl, back); done = rest.0; others = rest.1; room = c.requires.room }
