@@ -175,7 +175,7 @@ module _ (b last : ℕ) (past : ℕ → ℕ → Option Record) (moment : ℕ →
   pub pass : (Ahead' Upcoming' : ℕ → Type 0) → ((x : ℕ) → Ahead x → (past last x ≡ None) ⊎ Ahead' x) → ((x : ℕ) → Upcoming' x → Upcoming x) → IsCollecting b last past place who own since collects Ahead' Upcoming' f d ss
   pass Ahead' Upcoming' still fewer =
       still_collecting b b last past place place who who own since collects Ahead Ahead' Upcoming Upcoming' f d ss c (λ g. omega arith)
-          (λ x k. elim (still x k) [ inl none ↦ inl (was_empty x c.begun c.begun_last none) | inr on ↦ inr on ]) fewer
+      (λ x k. elim (still x k) [ inl none ↦ inl (was_empty x c.begun c.begun_last none) | inr on ↦ inr on ]) fewer
 
   -- the second change of a segment: its record holds a moment of this scan
   pub borrowed : (x : ℕ) (r : Record) → past last x ≡ Some r → c.seen x ≡ None → f ≡ false → (sighting_of x ss).before ≢ r.number → changed_in ss x ≡ true → (i : ℕ) × (since ≤ i) × (i ≤ last) × IsMoment r.view (moment i)
@@ -527,4 +527,4 @@ collecting_joined b b' last past place who who' p new own since collects Ahead A
       | inr u ↦ rw u.0 e
     ] in
     still_collecting b b' last past place (set_at place p new) who who' own since collects Ahead Ahead' Upcoming Upcoming f d ss c
-        (λ g. count_joined who who' place (set_at place p new) b b' g more same kept) (λ x k. inr (still x k)) (λ x u. u)
+    (λ g. count_joined who who' place (set_at place p new) b b' g more same kept) (λ x k. inr (still x k)) (λ x u. u)
