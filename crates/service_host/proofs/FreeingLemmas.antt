@@ -12,6 +12,7 @@ use Rattle.model_pool.specs.declared.stay.Stay.{Stay}
 use Rattle.model_pool.specs.declared.stay.Stay.TheVariants.{Seeking, Settled}
 use Rattle.model_pool.specs.Competitors.{stay_of, with_stay, without}
 use Rattle.model_pool.specs.Pool.{after_leave_by, after_probe_by, got_by, number_by, probe_answer_by, probe_refusal_by}
+use Rattle.model_pool.specs.PoolState.{PoolState}
 use Rattle.model_pool.specs.Sought.{after_seek_by, seek_answer_by, sought_on}
 use Rattle.model_pool.specs.Stay.{probe_reply as answer_in, stay_found}
 use Rattle.model_asked.specs.declared.event.Event.{Event}
@@ -67,41 +68,27 @@ none_of_false None h = refl
 none_of_false (Some x) h = absurd (cc)
 
 -- the desk's answers to `leave` and `probe`, by the stay of the identity
-leave_refusal : (w : DeskValue) (id : ℕ) → desk_refusal w (Leave id) ≡ refusal_of (number_by (stay_of id (slots_of w).pool.competitors))
-leave_refusal (OverGrid w) id = refl
-leave_refusal (OverTree w) id = refl
+-- what a desk says to an event: its refusal, its reply, and its pool then
+abbrev Tells : DeskValue → Event → Option Refusal → ShownReply → PoolState → Type 0
+Tells w e refusal r pool = (desk_refusal w e ≡ refusal) × (desk_reply w e ≡ r) × ((slots_of (desk_after w e)).pool ≡ pool)
 
-leave_reply : (w : DeskValue) (id : ℕ) → desk_reply w (Leave id) ≡ left_reply (number_by (stay_of id (slots_of w).pool.competitors))
-leave_reply (OverGrid w) id = refl
-leave_reply (OverTree w) id = refl
+abbrev stay_in : DeskValue → ℕ → Option Stay
+stay_in w id = stay_of id (slots_of w).pool.competitors
 
-leave_pool : (w : DeskValue) (id : ℕ) → (slots_of (desk_after w (Leave id))).pool ≡ after_leave_by (slots_of w).pool id (stay_of id (slots_of w).pool.competitors)
-leave_pool (OverGrid w) id = refl
-leave_pool (OverTree w) id = refl
+leave_told : (w : DeskValue) (id : ℕ) →
+    Tells w (Leave id) (refusal_of (number_by (stay_in w id))) (left_reply (number_by (stay_in w id))) (after_leave_by (slots_of w).pool id (stay_in w id))
+leave_told (OverGrid w) id = (refl, refl, refl)
+leave_told (OverTree w) id = (refl, refl, refl)
 
-probe_refusal : (w : DeskValue) (id : ℕ) → desk_refusal w (Probe id) ≡ probe_refusal_by (stay_of id (slots_of w).pool.competitors)
-probe_refusal (OverGrid w) id = refl
-probe_refusal (OverTree w) id = refl
+probe_told : (w : DeskValue) (id : ℕ) →
+    Tells w (Probe id) (probe_refusal_by (stay_in w id)) (probe_reply (probe_answer_by (slots_of w).pool (stay_in w id))) (after_probe_by (slots_of w).pool id (stay_in w id))
+probe_told (OverGrid w) id = (refl, refl, refl)
+probe_told (OverTree w) id = (refl, refl, refl)
 
-probe_said : (w : DeskValue) (id : ℕ) → desk_reply w (Probe id) ≡ probe_reply (probe_answer_by (slots_of w).pool (stay_of id (slots_of w).pool.competitors))
-probe_said (OverGrid w) id = refl
-probe_said (OverTree w) id = refl
-
-probe_pool : (w : DeskValue) (id : ℕ) → (slots_of (desk_after w (Probe id))).pool ≡ after_probe_by (slots_of w).pool id (stay_of id (slots_of w).pool.competitors)
-probe_pool (OverGrid w) id = refl
-probe_pool (OverTree w) id = refl
-
-seek_refusal : (w : DeskValue) (id : ℕ) → desk_refusal w (Seek id) ≡ probe_refusal_by (stay_of id (slots_of w).pool.competitors)
-seek_refusal (OverGrid w) id = refl
-seek_refusal (OverTree w) id = refl
-
-seek_said : (w : DeskValue) (id : ℕ) → desk_reply w (Seek id) ≡ seek_reply (seek_answer_by (slots_of w).pool (stay_of id (slots_of w).pool.competitors))
-seek_said (OverGrid w) id = refl
-seek_said (OverTree w) id = refl
-
-seek_pool : (w : DeskValue) (id : ℕ) → (slots_of (desk_after w (Seek id))).pool ≡ after_seek_by (slots_of w).pool id (stay_of id (slots_of w).pool.competitors)
-seek_pool (OverGrid w) id = refl
-seek_pool (OverTree w) id = refl
+seek_told : (w : DeskValue) (id : ℕ) →
+    Tells w (Seek id) (probe_refusal_by (stay_in w id)) (seek_reply (seek_answer_by (slots_of w).pool (stay_in w id))) (after_seek_by (slots_of w).pool id (stay_in w id))
+seek_told (OverGrid w) id = (refl, refl, refl)
+seek_told (OverTree w) id = (refl, refl, refl)
 
 -- a hall wanted room, or its desk refused, or it answered
 abbrev Seen : HallState → Event → ShownReply → HallState → Type 0
@@ -160,25 +147,31 @@ leave_taken h id r u (Some (Settled n)) is due said after = inr (inr (inr (ap is
 leave_seen : (h : HallState) (id : ℕ) (r : ShownReply) (u : HallState) → HallMay h (Leave id) r u → LeaveSeen h id r u
 leave_seen h id r u may = elim (seen h (Leave id) r u may) [
   | inl m ↦ inl m
-  | inr (inl m) ↦ leave_refused h id r u (stay_of id (crowd h)) m.0 refl (sym (leave_refusal (desk_of h) id) ∙ m.1) m.2 m.3
-  | inr (inr m) ↦ leave_taken h id r u (stay_of id (crowd h)) refl (sym (leave_refusal (desk_of h) id) ∙ m.0) (m.1 ∙ leave_reply (desk_of h) id)
-      (ap (λ w. (slots_of w).pool) m.2 ∙ leave_pool (desk_of h) id)
+  | inr (inl m) ↦ leave_refused h id r u (stay_of id (crowd h)) m.0 refl (sym ((leave_told (desk_of h) id).0) ∙ m.1) m.2 m.3
+  | inr (inr m) ↦ leave_taken h id r u (stay_of id (crowd h)) refl (sym ((leave_told (desk_of h) id).0) ∙ m.0) (m.1 ∙ (leave_told (desk_of h) id).1)
+      (ap (λ w. (slots_of w).pool) m.2 ∙ (leave_told (desk_of h) id).2)
 ]
 
--- a probe was refused, or it goes on to another stay
-abbrev ProbeSeen : HallState → ℕ → ShownReply → HallState → Type 0
-ProbeSeen h id r u =
+-- a search was refused, or this is so of it
+abbrev Searched : HallState → ℕ → ShownReply → HallState → Type 0 → Type 0
+Searched h id r u Found =
     ((wants_room r ≡ true) × (u ≡ h)) ⊎
     ((stay_of id (crowd h) ≡ None) × (is_missed r ≡ false) × (u ≡ h)) ⊎
-    ((n : ℕ) × (stay_of id (crowd h) ≡ Some (Settled n)) × (is_missed r ≡ false) × (u ≡ h)) ⊎
-    ((n : ℕ) × (got : Answer (Unit {0})) × (stay_of id (crowd h) ≡ Some (Seeking n)) × (r ≡ shown_probe (answer_in (stay_found (size_in h) n got))) ×
-    (crowd u ≡ with_stay id (stay_found (size_in h) n got) (crowd h)) × (size_in u ≡ size_in h))
+    ((n : ℕ) × (stay_of id (crowd h) ≡ Some (Settled n)) × (is_missed r ≡ false) × (u ≡ h)) ⊎ Found
 
-probe_refused : (h : HallState) (id : ℕ) (r : ShownReply) (u : HallState) (o : Option Stay) (why : Refusal) → stay_of id (crowd h) ≡ o → probe_refusal_by o ≡ Some why →
-    r ≡ reply.Refused why → u ≡ h → ProbeSeen h id r u
-probe_refused h id r u None why is due said same = inr (inl (is, ap is_missed said, same))
-probe_refused h id r u (Some (Seeking n)) why is due said same = absurd (cc)
-probe_refused h id r u (Some (Settled n)) why is due said same = inr (inr (inl (n, is, ap is_missed said, same)))
+search_refused : (Found : Type 0) (h : HallState) (id : ℕ) (r : ShownReply) (u : HallState) (o : Option Stay) (why : Refusal) → stay_of id (crowd h) ≡ o →
+    probe_refusal_by o ≡ Some why → r ≡ reply.Refused why → u ≡ h → Searched h id r u Found
+search_refused Found h id r u None why is due said same = inr (inl (is, ap is_missed said, same))
+search_refused Found h id r u (Some (Seeking n)) why is due said same = absurd (cc)
+search_refused Found h id r u (Some (Settled n)) why is due said same = inr (inr (inl (n, is, ap is_missed said, same)))
+
+-- a probe was refused, or it goes on to another stay
+abbrev Probed : HallState → ℕ → ShownReply → HallState → Type 0
+Probed h id r u = (n : ℕ) × (got : Answer (Unit {0})) × (stay_of id (crowd h) ≡ Some (Seeking n)) × (r ≡ shown_probe (answer_in (stay_found (size_in h) n got))) ×
+    (crowd u ≡ with_stay id (stay_found (size_in h) n got) (crowd h)) × (size_in u ≡ size_in h)
+
+abbrev ProbeSeen : HallState → ℕ → ShownReply → HallState → Type 0
+ProbeSeen h id r u = Searched h id r u (Probed h id r u)
 
 probe_taken : (h : HallState) (id : ℕ) (r : ShownReply) (u : HallState) (o : Option Stay) → stay_of id (crowd h) ≡ o → probe_refusal_by o ≡ None →
     r ≡ probe_reply (probe_answer_by (slots_of (desk_of h)).pool o) → (slots_of (desk_of u)).pool ≡ after_probe_by (slots_of (desk_of h)).pool id o → ProbeSeen h id r u
@@ -190,24 +183,17 @@ probe_taken h id r u (Some (Seeking n)) is due said after =
 probe_seen : (h : HallState) (id : ℕ) (r : ShownReply) (u : HallState) → HallMay h (Probe id) r u → ProbeSeen h id r u
 probe_seen h id r u may = elim (seen h (Probe id) r u may) [
   | inl m ↦ inl m
-  | inr (inl m) ↦ probe_refused h id r u (stay_of id (crowd h)) m.0 refl (sym (probe_refusal (desk_of h) id) ∙ m.1) m.2 m.3
-  | inr (inr m) ↦ probe_taken h id r u (stay_of id (crowd h)) refl (sym (probe_refusal (desk_of h) id) ∙ m.0) (m.1 ∙ probe_said (desk_of h) id)
-      (ap (λ w. (slots_of w).pool) m.2 ∙ probe_pool (desk_of h) id)
+  | inr (inl m) ↦ search_refused (Probed h id r u) h id r u (stay_of id (crowd h)) m.0 refl (sym ((probe_told (desk_of h) id).0) ∙ m.1) m.2 m.3
+  | inr (inr m) ↦ probe_taken h id r u (stay_of id (crowd h)) refl (sym ((probe_told (desk_of h) id).0) ∙ m.0) (m.1 ∙ (probe_told (desk_of h) id).1)
+      (ap (λ w. (slots_of w).pool) m.2 ∙ (probe_told (desk_of h) id).2)
 ]
 
 -- probes until a number is had were refused, or they gave one
-abbrev SeekSeen : HallState → ℕ → ShownReply → HallState → Type 0
-SeekSeen h id r u =
-    ((wants_room r ≡ true) × (u ≡ h)) ⊎
-    ((stay_of id (crowd h) ≡ None) × (is_missed r ≡ false) × (u ≡ h)) ⊎
-    ((n : ℕ) × (stay_of id (crowd h) ≡ Some (Settled n)) × (is_missed r ≡ false) × (u ≡ h)) ⊎
-    ((n m : ℕ) × (stay_of id (crowd h) ≡ Some (Seeking n)) × (is_missed r ≡ false) × (crowd u ≡ with_stay id (Settled m) (crowd h)) × (size_in u ≡ size_in h))
+abbrev Sought : HallState → ℕ → ShownReply → HallState → Type 0
+Sought h id r u = (n m : ℕ) × (stay_of id (crowd h) ≡ Some (Seeking n)) × (is_missed r ≡ false) × (crowd u ≡ with_stay id (Settled m) (crowd h)) × (size_in u ≡ size_in h)
 
-seek_refused : (h : HallState) (id : ℕ) (r : ShownReply) (u : HallState) (o : Option Stay) (why : Refusal) → stay_of id (crowd h) ≡ o → probe_refusal_by o ≡ Some why →
-    r ≡ reply.Refused why → u ≡ h → SeekSeen h id r u
-seek_refused h id r u None why is due said same = inr (inl (is, ap is_missed said, same))
-seek_refused h id r u (Some (Seeking n)) why is due said same = absurd (cc)
-seek_refused h id r u (Some (Settled n)) why is due said same = inr (inr (inl (n, is, ap is_missed said, same)))
+abbrev SeekSeen : HallState → ℕ → ShownReply → HallState → Type 0
+SeekSeen h id r u = Searched h id r u (Sought h id r u)
 
 seek_taken : (h : HallState) (id : ℕ) (r : ShownReply) (u : HallState) (o : Option Stay) → stay_of id (crowd h) ≡ o → probe_refusal_by o ≡ None →
     r ≡ seek_reply (seek_answer_by (slots_of (desk_of h)).pool o) → (slots_of (desk_of u)).pool ≡ after_seek_by (slots_of (desk_of h)).pool id o → SeekSeen h id r u
@@ -220,9 +206,9 @@ seek_taken h id r u (Some (Seeking n)) is due said after =
 seek_seen : (h : HallState) (id : ℕ) (r : ShownReply) (u : HallState) → HallMay h (Seek id) r u → SeekSeen h id r u
 seek_seen h id r u may = elim (seen h (Seek id) r u may) [
   | inl m ↦ inl m
-  | inr (inl m) ↦ seek_refused h id r u (stay_of id (crowd h)) m.0 refl (sym (seek_refusal (desk_of h) id) ∙ m.1) m.2 m.3
-  | inr (inr m) ↦ seek_taken h id r u (stay_of id (crowd h)) refl (sym (seek_refusal (desk_of h) id) ∙ m.0) (m.1 ∙ seek_said (desk_of h) id)
-      (ap (λ w. (slots_of w).pool) m.2 ∙ seek_pool (desk_of h) id)
+  | inr (inl m) ↦ search_refused (Sought h id r u) h id r u (stay_of id (crowd h)) m.0 refl (sym ((seek_told (desk_of h) id).0) ∙ m.1) m.2 m.3
+  | inr (inr m) ↦ seek_taken h id r u (stay_of id (crowd h)) refl (sym ((seek_told (desk_of h) id).0) ∙ m.0) (m.1 ∙ (seek_told (desk_of h) id).1)
+      (ap (λ w. (slots_of w).pool) m.2 ∙ (seek_told (desk_of h) id).2)
 ]
 
 -- no reply is both
@@ -358,14 +344,14 @@ size_after_leave : (h u : HallState) (id : ℕ) (r : ShownReply) → HallMay h (
 size_after_leave h u id r may = elim (seen h (Leave id) r u may) [
   | inl m ↦ ap size_in m.1
   | inr (inl m) ↦ ap size_in m.3
-  | inr (inr m) ↦ ap (λ w. (slots_of w).pool.size) m.2 ∙ ap (λ p. p.size) (leave_pool (desk_of h) id) ∙ size_left (slots_of (desk_of h)).pool id (stay_of id (crowd h))
+  | inr (inr m) ↦ ap (λ w. (slots_of w).pool.size) m.2 ∙ ap (λ p. p.size) ((leave_told (desk_of h) id).2) ∙ size_left (slots_of (desk_of h)).pool id (stay_of id (crowd h))
 ]
 
 size_after_probe : (h u : HallState) (id : ℕ) (r : ShownReply) → HallMay h (Probe id) r u → size_in u ≡ size_in h
 size_after_probe h u id r may = elim (seen h (Probe id) r u may) [
   | inl m ↦ ap size_in m.1
   | inr (inl m) ↦ ap size_in m.3
-  | inr (inr m) ↦ ap (λ w. (slots_of w).pool.size) m.2 ∙ ap (λ p. p.size) (probe_pool (desk_of h) id) ∙ size_probed (slots_of (desk_of h)).pool id (stay_of id (crowd h))
+  | inr (inr m) ↦ ap (λ w. (slots_of w).pool.size) m.2 ∙ ap (λ p. p.size) ((probe_told (desk_of h) id).2) ∙ size_probed (slots_of (desk_of h)).pool id (stay_of id (crowd h))
 ]
 
 size_after_seek : (h u : HallState) (id : ℕ) (r : ShownReply) → HallMay h (Seek id) r u → size_in u ≡ size_in h
