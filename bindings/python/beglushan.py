@@ -61,6 +61,7 @@ _FORMS = {
     "enter": "ok|refused N",
     "probe": "missed|got N|refused N",
     "seek": "got N|refused N|bad 3",
+    "take": "got N|refused N|bad 3",
     "put": "ok|refused N",
     "held": "none|N N N",
     "leave": "left N|refused N",
@@ -70,8 +71,12 @@ _FORMS = {
     "terms": "terms (?:forever|connection) N N|bad 3",
 }
 _REPLIES = {word: re.compile(form.replace("N", "(?:0|[1-9][0-9]{0,19})")) for word, form in _FORMS.items()}
+# The most seconds for which a line waits for a number.
+_MOST_WAIT = 9999
 # How many probes are sent at once: a competitor has a number after as many probes, unless the pool may have more than 64. There `seek` is known.
 _PROBES = (8, 16, 40)
+# After how many seconds a call that waits looks whether it was stopped.
+_LOOK = 0.25
 # How many steps of renaming are sent at once; the most names, which are at most 2m - 1, where m is at most 64; the longest reply, in bytes.
 _STEPS, _MOST_NAMES, _LONGEST = 64, 127, 8192
 
@@ -152,8 +157,9 @@ _ASSUMED = Terms(False, 10, 30)
 class _Connection:
     """One connection at a time to one of the front ends, for one identity. Replies are matched to lines in their order."""
 
-    def __init__(self, addresses: Sequence[Tuple[str, int]], timeout: float, identity: int) -> None:
+    def __init__(self, addresses: Sequence[Tuple[str, int]], timeout: float, identity: int, stopped: Optional[threading.Event] = None) -> None:
         self.identity = identity
+        self._stopped = stopped  # ends a wait for a number
         self.serial = 0  # of the last connection: what was said on an earlier one counts no more
         self.terms = _ASSUMED  # those of the last connection
         self.is_wide: Optional[bool] = None  # whether the pool may have more than 64 numbers, as far as it is known
@@ -187,13 +193,13 @@ class _Connection:
         if stream is not None:
             stream.close()
 
-    def exchange(self, *lines: str, limit: float = math.inf) -> List[str]:
+    def exchange(self, *lines: str, limit: float = math.inf, wait: float = 0.0) -> List[str]:
         """Sends lines at once, and returns the reply to each. A fault closes the connection; the next one is to the next address.
 
-        A new connection is asked for its terms before."""
+        A new connection is asked for its terms before. The replies may come so many seconds later as the lines wait."""
         host, port = self._addresses[self._at]
         limit = min(limit, self._timeout)
-        end = time.monotonic() + limit
+        end = time.monotonic() + limit + wait
         try:
             serial = self.serial
             stream = self._silent_stream(host, port, limit)
@@ -201,7 +207,7 @@ class _Connection:
             stream.settimeout(limit)
             sent = time.monotonic()
             stream.sendall("".join(line + "\n" for line in asked).encode("ascii"))
-            replies = _read_replies(stream, len(asked), end)
+            replies = _read_replies(stream, len(asked), end, self._stopped if wait else None)
             for line, reply in zip(asked, replies):
                 if not _fits(line, reply):
                     raise OSError(f"{reply[:80]!r} is no reply to {line!r}")
@@ -273,15 +279,20 @@ class _Connection:
         raise OSError("it says what was not asked" if said else "it closed the connection")
 
 
-def _read_replies(stream: socket.socket, count: int, end: float) -> List[str]:
-    """So many lines until that time, with nothing behind them."""
+def _read_replies(stream: socket.socket, count: int, end: float, stopped: Optional[threading.Event]) -> List[str]:
+    """So many lines until that time, with nothing behind them, unless the call is stopped before."""
     text = b""
     while text.count(b"\n") < count:
         left = end - time.monotonic()
         if left <= 0:
             raise OSError("it does not answer in time")
-        stream.settimeout(left)
-        piece = stream.recv(1 << 16)
+        if stopped is not None and stopped.is_set():
+            raise BeglushanError("the call was cancelled")
+        stream.settimeout(min(left, _LOOK))
+        try:
+            piece = stream.recv(1 << 16)
+        except socket.timeout:
+            continue
         text += piece
         if not piece or len(text) > count * _LONGEST:
             raise OSError("it says too much" if piece else "it closed the connection")
@@ -344,8 +355,8 @@ class Number:
     A thread of its own keeps it: it says something in time, watches the connection, and comes back where that has ended.
     After an exception in the block a failure to give back is not raised, so that the exception is."""
 
-    def __init__(self, connection: _Connection, is_drawn: bool, patience: float, heartbeat: float, on_lost: Optional[Callable[["Number"], None]],
-                 at_end: Callable[[], None]) -> None:
+    def __init__(self, connection: _Connection, is_drawn: bool, wait: float, patience: float, heartbeat: float,
+                 on_lost: Optional[Callable[["Number"], None]], at_end: Callable[[], None]) -> None:
         """For `Hall.acquire` alone."""
         self._connection, self._patience, self._heartbeat = connection, patience, heartbeat
         self._on_lost, self._at_end = on_lost, at_end
@@ -356,11 +367,12 @@ class Number:
         self._own = _Held(0, 0)
         self._lost: Optional[str] = None
         self._process = os.getpid()
+        self._wait_until = time.monotonic() + wait
         self._entered_on = 0  # the serial of the connection on which `enter` was said last
         self._valid_until = -math.inf
         self._thread = threading.Thread(target=self._keep_on, name=f"beglushan {connection.identity}", daemon=True)
         try:
-            connection.persist(self._acquire, patience)
+            connection.persist(self._acquire, wait + patience)
             self._thread.start()
         except BaseException as fault:
             if self._is_own and not isinstance(fault, (Unreachable, NumbersExhausted)):
@@ -473,13 +485,26 @@ class Number:
                     _raise_refusal(next((reply for reply in probes if reply != "missed"), "missed"))
         return last
 
+    def _wait_in_line(self) -> str:
+        """Waits at the front end for a number, behind those who came before, and returns what `enter` is answered then."""
+        left = self._wait_until - time.monotonic()
+        if left > 0:
+            seconds = min(math.ceil(left), _MOST_WAIT)
+            reply = self._connection.exchange(f"take {self.identity} {seconds}", wait=seconds)[0]
+            if reply.startswith("got "):
+                return "ok"
+            if reply not in (f"refused {_CROWDED}", "bad 3"):
+                return reply
+        raise NumbersExhausted()
+
     def _acquire(self) -> None:
         """An attempt to get a number and its token. It goes on where an earlier one has ended."""
         exchange, held = self._connection.exchange, f"held {self.identity}"
         tried = [f"seek {self.identity}"] if self._connection.is_wide else [f"probe {self.identity}"] * _PROBES[0]
         entered, *probes, last = exchange(f"enter {self.identity}", *tried, held)
         if entered == f"refused {_CROWDED}":
-            raise NumbersExhausted()
+            entered = self._wait_in_line()
+            last = exchange(held)[0]
         _raise_refusal(entered, _ALREADY_COMPETING)
         self._is_own = self._is_own or entered == "ok"
         if last == "none":
@@ -695,19 +720,37 @@ class Hall:
         self._timeout, self._heartbeat, self._patience, self._on_lost = timeout, heartbeat, patience, on_lost
         self._busy = threading.Lock()
 
-    def acquire(self) -> Number:
+    def acquire(self, wait: float = 0.0) -> Number:
         """Gets a number and its token. A given identity that still holds a number, as after a crash, gets that one with a new token.
 
-        Each number has a connection of its own, and a thread for the heartbeat.
+        While all numbers are held it waits for so many seconds, which are rounded up to whole ones. The server gives a number that is free to
+        who has waited longest. Each number has a connection of its own, and a thread for the heartbeat.
 
         Raises NumbersExhausted; Refused (13 where the history is full, 9 where this hall's given identity holds its number); Unreachable;
         BeglushanError where the slot has the greatest value."""
+        return self._acquire_within(wait, threading.Event())
+
+    def _acquire_within(self, wait: float, stopped: threading.Event) -> Number:
+        """The same, until it is stopped. A front end that knows no waiting, or was overtaken by another, is asked again."""
+        end, rounds = time.monotonic() + wait, 0
+        while True:
+            left = max(end - time.monotonic(), 0.0)
+            try:
+                return self._acquire_once(left, stopped)
+            except NumbersExhausted:
+                left = end - time.monotonic()
+                if left <= 0 or stopped.is_set():
+                    raise
+            rounds += 1
+            stopped.wait(min(_pause(rounds), left))
+
+    def _acquire_once(self, wait: float, stopped: threading.Event) -> Number:
         if self._is_drawn:
-            return self._acquired(_drawn_identity(), lambda: None)
+            return self._acquired(_drawn_identity(), wait, stopped, lambda: None)
         if not self._busy.acquire(blocking=False):
             raise Refused(_ALREADY_COMPETING)
         try:
-            return self._acquired(self.identity, self._busy.release)
+            return self._acquired(self.identity, wait, stopped, self._busy.release)
         except BaseException:
             self._busy.release()
             raise
@@ -722,9 +765,9 @@ class Hall:
         finally:
             connection.close()
 
-    def _acquired(self, identity: int, at_end: Callable[[], None]) -> Number:
-        connection = _Connection(self._addresses, self._timeout, identity)
-        return Number(connection, self._is_drawn, self._patience, self._heartbeat, self._on_lost, at_end)
+    def _acquired(self, identity: int, wait: float, stopped: threading.Event, at_end: Callable[[], None]) -> Number:
+        connection = _Connection(self._addresses, self._timeout, identity, stopped)
+        return Number(connection, self._is_drawn, wait, self._patience, self._heartbeat, self._on_lost, at_end)
 
     def _named(self, connection: _Connection) -> int:
         """An attempt to be named, which goes on where an earlier one has ended."""
@@ -766,13 +809,14 @@ class AsyncHall:
         self._hall = Hall(addresses, on_lost=None if on_lost is None else self._call_on_lost, **options)
 
     @contextlib.asynccontextmanager
-    async def acquire(self) -> AsyncIterator[Number]:
+    async def acquire(self, wait: float = 0.0) -> AsyncIterator[Number]:
         """Holds a number in an `async with` block, as `Hall.acquire` does, and raises what that raises.
 
         A task that is cancelled while it waits for the number holds none. After an exception in the block a failure to give back is not
         raised, so that the exception is."""
         self._loop = asyncio.get_running_loop()
-        number = await _unless_cancelled(self._hall.acquire, _give_back)
+        stopped = threading.Event()
+        number = await _unless_cancelled(lambda: self._hall._acquire_within(wait, stopped), stopped.set, _give_back)
         try:
             yield number
         except BaseException:
@@ -800,13 +844,14 @@ def _give_back(number: Number) -> None:
         pass
 
 
-async def _unless_cancelled(call: Callable[[], Result], undo: Callable[[Result], None]) -> Result:
-    """What a call returns that is made in a thread. Where the task is cancelled meanwhile, what the call did is undone once it has ended."""
+async def _unless_cancelled(call: Callable[[], Result], stop: Callable[[], None], undo: Callable[[Result], None]) -> Result:
+    """What a call returns that is made in a thread. Where the task is cancelled meanwhile, the call is stopped, and what it did is undone."""
     loop = asyncio.get_running_loop()
     done = loop.run_in_executor(None, call)
     try:
         return await asyncio.shield(done)
     except asyncio.CancelledError:
+        stop()
         try:
             got = await asyncio.shield(done)
         except BaseException:
@@ -847,20 +892,6 @@ def _dies_with_parent() -> Optional[Callable[[], None]]:
             os._exit(_WAS_LOST)
 
     return begin
-
-
-def _acquired_within(hall: Hall, seconds: float) -> Number:
-    """A number, for which it asks again and again for so many seconds."""
-    end, rounds = time.monotonic() + seconds, 0
-    while True:
-        try:
-            return hall.acquire()
-        except NumbersExhausted:
-            left = end - time.monotonic()
-            if left <= 0:
-                raise
-        rounds += 1
-        time.sleep(min(_pause(rounds), left))
 
 
 class _Command:
@@ -939,7 +970,7 @@ def _asked(words: Optional[Sequence[str]]) -> argparse.Namespace:
     take = commands.add_parser("take", description=_USAGE, epilog=_STATUSES, formatter_class=argparse.RawDescriptionHelpFormatter)
     take.add_argument("--at", required=True, metavar="HOST:PORT[,..]", help="the front ends, tried in turn")
     take.add_argument("--id", type=int, metavar="ID", help="who holds the number, from 1 to 2^64 - 1; drawn if not given")
-    take.add_argument("--wait", type=float, default=0.0, metavar="SECONDS", help="how long to ask again while all numbers are held (0)")
+    take.add_argument("--wait", type=float, default=0.0, metavar="SECONDS", help="how long to wait while all numbers are held (0)")
     take.add_argument("--confirm", type=float, default=60.0, metavar="SECONDS", help="how often to ask whether somebody else gave the number back (60; 0: never)")
     take.add_argument("command", nargs="+", metavar="COMMAND", help="the command and its words, behind --")
     return parser.parse_args(words)
@@ -955,7 +986,7 @@ def main(words: Optional[Sequence[str]] = None) -> int:
         return 2
     command = _Command(asked.command, asked.confirm)
     try:
-        number = _acquired_within(hall, asked.wait)
+        number = hall.acquire(asked.wait)
     except BeglushanError as error:
         print(f"beglushan: {error}", file=sys.stderr)
         return _NONE_HAD

@@ -1,5 +1,5 @@
 -- faults behind which nothing more is served
-use Rattle.std.specs.Prelude.{Option, Some, None}
+use Rattle.std.specs.Prelude.{Option, Some, None, Result, Ok, Err}
 use Rattle.model_steps.specs.declared.refusal.Refusal.{Refusal}
 use Rattle.model_steps.specs.declared.refusal.Refusal.TheVariants as refusal
 use Rattle.service_log.specs.declared.serve_fault.Cause.{Cause}
@@ -33,6 +33,15 @@ fault_of_cause cause.Busy = None
 abbrev pub fault_of : ServeFault → Option LogFault
 fault_of serve.TooLong = Some fault.TooLong
 fault_of (serve.Unknown cause) = fault_of_cause cause
+
+abbrev pub unless_gone_by : Option LogFault → Result (Unit {0}) LogFault
+unless_gone_by None = Ok tt
+unless_gone_by (Some fault) = Err fault
+
+-- what comes of a call: the fault behind which nothing more is served, where it met one
+abbrev pub unless_gone : {T : Type 0} → Result T Cause → Result (Unit {0}) LogFault
+unless_gone (Ok done) = Ok tt
+unless_gone (Err why) = unless_gone_by (fault_of_cause why)
 
 -- why a hall was not opened
 abbrev pub fault_of_refusal : Refusal → LogFault

@@ -13,7 +13,7 @@ use crate::pause::Pause;
 use crate::reply_queue::ReplyQueue;
 use model_asked::Event;
 use service_hall::{Compactor, Hall};
-use service_log::{MOST_BATCH, Step, Store};
+use service_log::{Cause, MOST_BATCH, Step, Store};
 use std::alloc::{AllocError, Global};
 
 /// When a compaction is due, and those of others are minded.
@@ -205,6 +205,13 @@ fn put_last(
     Ok(())
 }
 
+// Whether what was offered stands.
+fn is_answered(offered: Result<Step, Cause>) -> Result<bool, LogFault> {
+    let stands = matches!(offered, Ok(Step::Answered));
+    LogFault::unless_gone(offered)?;
+    Ok(stands)
+}
+
 impl Work {
     // Nothing was asked yet.
     fn new() -> Work {
@@ -347,14 +354,7 @@ impl Compaction {
         ensures told { HasToldAlone S.stands self.old.due self.new.due self.old.token self.new.token log.old log.new }
     {
         self.count = self.count.wrapping_add(1);
-        match log.offer(&self.entry, reply_queue) {
-            Ok(Step::Answered) => Ok(true),
-            Ok(_) => Ok(false),
-            Err(cause) => match LogFault::of_cause(cause) {
-                Some(fault) => Err(fault),
-                None => Ok(false),
-            },
-        }
+        is_answered(log.offer(&self.entry, reply_queue))
     }
 
     // Begins if a compaction is due, and builds the hall with the shorter history. Where none is shorter, it tells the same: who starts passes over the

@@ -81,5 +81,5 @@ pub use note::{Asked, Note};
 pub use pause::Pause;
 pub use reply_queue::ReplyQueue;
 pub use stay_machine::StayMachine;
-pub use tallying::tally_of;
+pub use tallying::{room_of, tally_of};
 pub use watches::Watch;

@@ -1,7 +1,7 @@
 //! Why a hall over a log is not served, or no more.
 
 ghost use Rattle.std.specs.Prelude.{◌≡◌};
-ghost use Rattle.service_follow.specs.Faults.{fault_of, fault_of_cause, fault_of_store};
+ghost use Rattle.service_follow.specs.Faults.{fault_of, fault_of_cause, fault_of_store, unless_gone};
 
 use crate::hall_terms::HallTerms;
 use model_steps::Refusal;
@@ -61,7 +61,24 @@ impl LogFault {
         }
     }
 
-    /// The same, of a fault of the store.
+    /// What comes of a call of a log that may be made again.
+    ///
+    /// # Errors
+    ///
+    /// The fault behind which nothing more is served, where the call met one (`of_cause`).
+    pub fn unless_gone<T: Drop>(tried: Result<T, Cause>) -> Result<(), LogFault>
+        ensures { result ≡ unless_gone tried }
+    {
+        match tried {
+            Ok(_) => Ok(()),
+            Err(cause) => match LogFault::of_cause(cause) {
+                Some(fault) => Err(fault),
+                None => Ok(()),
+            },
+        }
+    }
+
+    /// The fault behind which nothing more is served, of a fault of the store.
     pub fn of_store(fault: StoreFault) -> Option<LogFault>
         ensures { result ≡ fault_of_store fault }
     {

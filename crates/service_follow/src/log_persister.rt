@@ -29,7 +29,7 @@ use crate::reading::{Read, put_replies, reads_in};
 use crate::release_lines::lines_of;
 use crate::reply_queue::ReplyQueue;
 use crate::sessions::Sessions;
-use crate::tallying::tally_of;
+use crate::tallying::{room_of, tally_of};
 use model_asked::Config;
 use service_hall::{Hall, Reads, Rules};
 use service_log::{Cause, MOST_BATCH, MOST_PLACES, ServeFault, Step, Store, StoreFault};
@@ -750,13 +750,7 @@ impl<S: Store, T: Pause> LogPersister<S, T> {
             return Err(LogFault::Memory);
         };
         self.count = count;
-        let Err(cause) = self.log.offer(&self.batch, reply_queue) else {
-            return Ok(());
-        };
-        match LogFault::of_cause(cause) {
-            Some(fault) => Err(fault),
-            None => Ok(()),
-        }
+        LogFault::unless_gone(self.log.offer(&self.batch, reply_queue))
     }
 
     // Reads the log to its end, and offers a change unless the hall has its terms. `None` where that is to be done once more.
@@ -781,10 +775,7 @@ impl<S: Store, T: Pause> LogPersister<S, T> {
             return Ok(Some(TermsChange::Held));
         }
         self.offer_change(reply_queue)?;
-        if self.tells_own() {
-            return Ok(Some(TermsChange::Stands));
-        }
-        Ok(None)
+        Ok(self.tells_own().then_some(TermsChange::Stands))
     }
 
     /// Has the terms of the hall be those that this was opened for (`open_any`), by an entry of its own. A change stands at a place up to which all was
@@ -967,6 +958,10 @@ impl<S: Store, T: Pause> Persist<ReplyQueue> for LogPersister<S, T> {
         put_held(self.log.hall().slots(), query, out);
     }
 
+    fn room(&self, _reply_queue: &ReplyQueue) -> u64 {
+        room_of(self.log.hall())
+    }
+
     fn is_full(&self, _reply_queue: &ReplyQueue) -> bool {
         false
     }
@@ -1056,7 +1051,7 @@ impl<S: Store, T: Pause> Persist<ReplyQueue> for LogPersister<S, T> {
             log_since_compaction: Some(self.log.entries_since_compaction()),
             log_answers: Some(self.answers),
             compactions: Some(self.log.compactions()),
-            ..tally_of(self.log.hall())
+            ..tally_of(self.alloc, self.log.hall())
         }
     }
 }

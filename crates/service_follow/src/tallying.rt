@@ -1,20 +1,27 @@
 //! How much there is of a hall.
 
+ghost use Rattle.std.specs.Prelude.{◌≡◌};
+ghost use Rattle.text_worlds.specs.desk.Held.{slots_of};
+ghost use Rattle.service_hall.specs.Halls.{desk_of};
+ghost use Rattle.service_loop.specs.Rooms.{room_in};
+
 use model_asked::Reply;
+use model_pool::Stay;
 use service_hall::{Hall, MOST_EVENTS};
 use service_loop::Tally;
+use std::alloc::Global;
 
-// How many numbers of the pool nobody holds.
-fn numbers_free(hall: &Hall) -> u64 {
+// How many numbers of the pool nobody holds; `None` where an allocation failed.
+fn numbers_free(alloc: Global, hall: &Hall) -> Option<u64> {
     let pool = hall.slots().pool();
-    let size = pool.size() as u32;
-    let mut free: u64 = 0;
-    for before in 0..size {
-        if pool.holder_of(before + 1).is_none() {
-            free = free.saturating_add(1);
-        }
-    }
-    free
+    let Ok(competitors) = pool.competitors(alloc) else {
+        return None;
+    };
+    let held = competitors
+        .iter()
+        .filter(|competitor| matches!(competitor.stay, Stay::Settled(_)))
+        .count();
+    Some(pool.size().saturating_sub(held as u64))
 }
 
 // How many names are given, of those from 1 to 2m - 1.
@@ -29,13 +36,21 @@ fn names_given(hall: &Hall) -> u64 {
     given
 }
 
+/// How many more may compete in the pool of a hall.
+pub fn room_of(hall: &Hall) -> u64
+    ensures { result ≡ room_in (slots_of (desk_of hall.now)) }
+{
+    let pool = hall.slots().pool();
+    pool.size().saturating_sub(pool.count())
+}
+
 /// How much there is of a hall, for people: nothing is known of where its history is kept.
-pub fn tally_of(hall: &Hall) -> Tally {
+pub fn tally_of(alloc: Global, hall: &Hall) -> Tally {
     let events = hall.len();
     Tally {
         events_left: Some(MOST_EVENTS.saturating_sub(events) as u64),
         competitors: Some(hall.slots().pool().count()),
-        numbers_free: Some(numbers_free(hall)),
+        numbers_free: numbers_free(alloc, hall),
         names_given: Some(names_given(hall)),
         ..Tally::of_events(events as u64)
     }

@@ -8,7 +8,7 @@ ghost use Rattle.service_journal.specs.Journals.{Stands};
 ghost use Rattle.service_host.specs.Kept.{IsKept, KeptBy, MayCompactHall, Rests};
 
 use crate::reading::Reading;
-use service_follow::tally_of;
+use service_follow::{room_of, tally_of};
 use service_hall::{Compactor, Hall};
 use service_journal::{Disk, Journal, JournalFault, WriteAhead, law_of_crashes};
 use service_loop::{Persist, Prefetch, Tally};
@@ -75,6 +75,10 @@ impl Persist<Reading<Hall>> for Unrecorded {
         put_held(reading.service.slots(), query, out);
     }
 
+    fn room(&self, reading: &Reading<Hall>) -> u64 {
+        room_of(&reading.service)
+    }
+
     fn is_full(&self, _reading: &Reading<Hall>) -> bool {
         false
     }
@@ -136,7 +140,7 @@ impl Persist<Reading<Hall>> for Unrecorded {
     fn tally(&self, reading: &Reading<Hall>) -> Tally {
         Tally {
             compactions: Some(self.compactions),
-            ..tally_of(&reading.service)
+            ..tally_of(self.alloc, &reading.service)
         }
     }
 }
@@ -216,6 +220,10 @@ impl<D: Disk> Persist<Reading<WriteAhead>> for Recorded<D> {
         put_held(reading.service.hall().slots(), query, out);
     }
 
+    fn room(&self, reading: &Reading<WriteAhead>) -> u64 {
+        room_of(reading.service.hall())
+    }
+
     fn is_full(&self, reading: &Reading<WriteAhead>) -> bool {
         FULL_BYTES < reading.service.waiting().len()
     }
@@ -286,7 +294,7 @@ impl<D: Disk> Persist<Reading<WriteAhead>> for Recorded<D> {
             compactions: self.journal.disk().replacings(),
             journal_bytes: Some(self.journal.disk().size()),
             syncs: self.journal.disk().sync_times(),
-            ..tally_of(reading.service.hall())
+            ..tally_of(self.alloc, reading.service.hall())
         }
     }
 }

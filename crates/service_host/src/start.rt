@@ -19,7 +19,9 @@ use model_asked::{Config, WorldKind};
 use model_pool::stays::Stays;
 use service_follow::{HallTerms, LogPersister, Pause, ReplyQueue};
 use service_hall::{Compactor, Hall, Rules};
-use service_journal::{Disk, FileDisk, Journal, NotOpened, OpenFault, Opened, SealedDisk};
+use service_journal::{
+    Disk, FileDisk, Journal, NotOpened, OpenFault, Opened, SealedDisk, WriteAhead,
+};
 use service_log::Store;
 use service_log::etcd::{EtcdStore, TcpDial};
 use service_loop::{Attended, Audit, AuditLog, HostOptions, Hosted, host};
@@ -173,16 +175,14 @@ where
     }
 }
 
-// Serves what was read of a journal, which is compacted before where it is long.
-fn host_recorded<R: Net + Wait + Clock + Files, D: Disk, L: AuditLog, W: Write, E: Write>(
+// What serves a hall that was read of a journal: it is compacted before where it is long, and widened where the plan asks for more numbers.
+fn recorded<R, D: Disk, E: Write>(
     rt: &R,
     alloc: Global,
     plan: &HostPlan<'_>,
     opened: Opened<D>,
-    audit: &mut L,
-    output: &mut W,
     errors: &mut E,
-) -> Result<(), HostFailure> {
+) -> Result<(Reading<WriteAhead>, Recorded<D>), HostFailure> {
     let Opened {
         journal,
         mut write_ahead,
@@ -203,17 +203,29 @@ fn host_recorded<R: Net + Wait + Clock + Files, D: Disk, L: AuditLog, W: Write, 
         service: write_ahead,
         rules: Rules::all(plan.rules.reads),
     };
-    if let Err(failure) = widen_recorded(
-        rt,
-        alloc,
-        plan.size_asked(),
-        &mut reading,
-        &mut persister,
-        errors,
-    ) {
-        return Err(failure);
+    let asked = plan.size_asked();
+    match widen_recorded(rt, alloc, asked, &mut reading, &mut persister, errors) {
+        Ok(()) => {}
+        Err(failure) => return Err(failure),
     }
     reading.rules = plan.rules;
+    Ok((reading, persister))
+}
+
+// Serves what was read of a journal.
+fn host_recorded<R: Net + Wait + Clock + Files, D: Disk, L: AuditLog, W: Write, E: Write>(
+    rt: &R,
+    alloc: Global,
+    plan: &HostPlan<'_>,
+    opened: Opened<D>,
+    audit: &mut L,
+    output: &mut W,
+    errors: &mut E,
+) -> Result<(), HostFailure> {
+    let (reading, mut persister) = match recorded(rt, alloc, plan, opened, errors) {
+        Ok(recorded) => recorded,
+        Err(failure) => return Err(failure),
+    };
     let stays = match stays_at_start(alloc, reading.service.hall(), plan.grace) {
         Ok(stays) => stays,
         Err(failure) => return Err(failure),

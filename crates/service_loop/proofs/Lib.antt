@@ -1,4 +1,5 @@
 mod LfLemmas
+mod TakeQueueLemmas
 mod AnswerLemmas
 mod AttendanceLemmas
 mod AttendedLemmas
@@ -14,6 +15,7 @@ mod RoundLemmas
 mod SeatLemmas
 mod SendingLemmas
 mod TableLemmas
+mod TakeLineLemmas
 mod TakingLemmas
 mod WaitingLemmas
 pub mod cited

@@ -57,7 +57,8 @@ module _ {C : Type 0} (on : Seating C) where
     t.2,
     elim t.0 as (λ _. (on.buffers c).broken ≡ true → (on.buffers d).broken ≡ true) [
       | inl same ↦ λ is. ap (λ q. q.broken) same.1 ∙ is
-      | inr takes ↦ stays_true _ _ (λ h. (takes.kept h).1)
+      | inr (inl takes) ↦ stays_true _ _ (λ h. (takes.kept h).1)
+      | inr (inr waits) ↦ λ is. ap (λ q. q.broken) waits.same ∙ is
     ],
   )
 

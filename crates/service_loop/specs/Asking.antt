@@ -1,12 +1,12 @@
 -- lines that a server answers by itself, among what waits of a connection: those that ask who holds numbers or the terms, and those that take a
 -- number
-use Rattle.std.specs.Prelude.{◌≡◌, ◌⊎◌, ◌≤◌, ◌<◌, ℕ, ◌++◌, ◌||◌, not, Bool, List, [], length, take, drop, get_or, suc, if◌then◌else◌, true, false, Option, Some, None, is_some, codes}
+use Rattle.std.specs.Prelude.{◌≡◌, ◌⊎◌, ◌≤◌, ◌<◌, ℕ, ◌++◌, ◌||◌, not, Bool, List, [], length, take, drop, get_or, suc, true, false, Option, Some, None, is_some}
 use Rattle.std.specs.List.{list_all}
 use Rattle.text_lines.specs.Lines.{has_no_lf, rest_of, whole_lines}
-use Rattle.text_lines.specs.Meaning.{number_in, same_bytes}
 use Rattle.text_lines.specs.declared.held.query.TheConstants.{QUERY_MAX}
 use Rattle.service_loop.specs.BuffersState.{BuffersState}
 use Rattle.service_loop.specs.Queries.{query_of}
+use Rattle.service_loop.specs.TakeLines.{identity_in, take_line}
 use Rattle.service_loop.specs.declared.terms.Query.{Query}
 
 -- the first so many of these bytes are a line that asks this, and its LF
@@ -17,9 +17,9 @@ pub record IsQueryOf (bytes : List ℕ) (query : Query) (count : ℕ) : Type 0 w
   pub ends : get_or bytes end 0 ≡ 10
   pub asks : query_of (take end bytes) ≡ Some query
 
--- the identity for which a line takes a number: `take ID`
+-- the identity for which a line takes a number: `take ID`, or `take ID SECONDS`
 abbrev pub taking_of : List ℕ → Option ℕ
-taking_of line = if same_bytes (take 5 line) (codes "take ") then number_in (drop 5 line) else None
+taking_of line = identity_in (take_line line)
 
 -- whether a line is one that the server answers by itself
 abbrev pub is_own : List ℕ → Bool

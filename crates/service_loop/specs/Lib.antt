@@ -13,6 +13,9 @@ pub mod AttendingProofs
 pub mod Searching
 pub mod Releasing
 pub mod Losing
+pub mod TakeLines
+pub mod TakeQueue
+pub mod Rooms
 pub mod Taking
 pub mod Waiting
 pub mod Keepers

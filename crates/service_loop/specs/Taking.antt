@@ -5,6 +5,7 @@ use Rattle.model_asked.specs.declared.event.Event.{Event}
 use Rattle.model_asked.specs.declared.event.Event.TheVariants as event
 use Rattle.model_asked.specs.declared.reply.Reply.{Reply}
 use Rattle.model_asked.specs.declared.reply.Reply.TheVariants as reply
+use Rattle.model_steps.specs.declared.refusal.Refusal.TheVariants as refusal
 use Rattle.model_asked.specs.Replies.{ShownReply}
 use Rattle.model_asked.specs.Requests.{Request}
 use Rattle.text_lines.specs.Replies.{reply_text}
@@ -74,9 +75,24 @@ pub record TakesNumber (wide ahead : Bool) (turns : List Turn) (s s' : BuffersSt
   pub inbox_is : s'.inbox ≡ drop count s.inbox
   pub kept : s'.broken ≡ false → (s'.outbox ≡ s.outbox ++ reply_text answer) × (s.broken ≡ false)
 
--- it does, or nothing is said and nothing changes
+-- it is refused one since as many compete as may
+abbrev pub is_crowded : {V : Type 0} → Reply V → Bool
+is_crowded (reply.Refused refusal.Crowded) = true
+is_crowded _ = false
+
+-- the line asks for a number, all are held, and it waits on: nothing is answered, and nothing changes
+pub record WaitsOn (wide ahead : Bool) (turns : List Turn) (s s' : BuffersState) : Type 0 where
+  pub identity : ℕ
+  pub count : ℕ
+  pub asks : IsTakingOf s.inbox identity count
+  pub answer : ShownReply
+  pub says : SaysTaking wide ahead identity turns answer
+  pub crowded : is_crowded answer ≡ true
+  pub same : s' ≡ s
+
+-- it does, or waits on, or nothing is said and nothing changes
 abbrev pub MayTakeNumber : Bool → Bool → List Turn → BuffersState → BuffersState → Type 0
-MayTakeNumber wide ahead turns s s' = ((turns ≡ []) × (s' ≡ s)) ⊎ TakesNumber wide ahead turns s s'
+MayTakeNumber wide ahead turns s s' = ((turns ≡ []) × (s' ≡ s)) ⊎ TakesNumber wide ahead turns s s' ⊎ WaitsOn wide ahead turns s s'
 
 module _ {C : Type 0} (on : Seating C) where
   -- for which identity the connection at a seat takes a number

@@ -6,6 +6,8 @@ use Rattle.text_player.specs.declared.form.TheConstants.{TURN_ROOM}
 use Rattle.service_loop.specs.Asking.{taking_of}
 use Rattle.service_loop.specs.BuffersState.{BuffersState}
 use Rattle.service_loop.specs.Queries.{query_of}
+use Rattle.service_loop.specs.TakeLines.{take_line}
+use Rattle.service_loop.specs.declared.take_line.TakeLine.{TakeLine}
 use Rattle.service_loop.specs.declared.terms.Query.{Query}
 use Rattle.service_loop.specs.declared.buffers.TheConstants.{UNSENT_ROOM, MOST_LINES}
 
@@ -26,6 +28,14 @@ first_query bytes = first_of query_of (whole_lines bytes)
 -- for which identity it takes a number, where it takes one
 abbrev pub first_taking : List ℕ → Option (ℕ × ℕ)
 first_taking bytes = first_of taking_of (whole_lines bytes)
+
+abbrev pub seconds_waited : Option (TakeLine × ℕ) → ℕ
+seconds_waited None = 0
+seconds_waited (Some said) = said.0.seconds
+
+-- for how many seconds it waits for one
+abbrev pub first_wait : List ℕ → ℕ
+first_wait bytes = seconds_waited (first_of take_line (whole_lines bytes))
 
 -- these bytes begin with the first letter of a line that the server answers by itself
 abbrev pub begins : List ℕ → Bool

@@ -7,12 +7,12 @@ ghost use Rattle.text_lines.specs.lemmas.PieceProofs.{lacks};
 ghost use Rattle.text_lines.specs.declared.held.query.TheConstants.{QUERY_MAX};
 ghost use Rattle.service_loop.specs.Asking.{is_own, none_own, IsLineStart, IsPrefixOf, IsQueryOf, IsTakingOf, MayAsk, taking_of};
 ghost use Rattle.service_loop.specs.Reported.{behind};
-ghost use Rattle.service_loop.specs.Waiting.{begins, first_query, first_taking, is_prefix_of};
+ghost use Rattle.service_loop.specs.Waiting.{begins, first_query, first_taking, first_wait, is_prefix_of};
 
+use crate::take_line::take_line;
 use crate::terms::{Query, query_of};
 use memchr::{memchr, memrchr};
 use text_lines::held::QUERY_MAX;
-use text_lines::words::{is_word, number};
 
 /// What ends a line.
 const LF: u8 = 10;
@@ -43,11 +43,10 @@ pub(crate) fn first_query(bytes: &[u8]) -> Option<(Query, usize)>
 pub(crate) fn taking_of(line: &[u8]) -> Option<u64>
     ensures { result ≡ taking_of line.now }
 {
-    let front = line.len().min(5);
-    if !is_word(&line[..front], b"take ") {
-        return None;
+    match take_line(line) {
+        Some(said) => Some(said.identity),
+        None => None,
     }
-    number(&line[front..])
 }
 
 /// For which identity the first line of these bytes takes a number, where it takes one, and how many bytes it has with its LF.
@@ -58,6 +57,19 @@ pub(crate) fn first_taking(bytes: &[u8]) -> Option<(u64, usize)>
     let end = memchr(LF, bytes)?;
     let identity = taking_of(&bytes[..end])?;
     Some((identity, end + 1))
+}
+
+/// For how many seconds the first line of these bytes waits for a number; 0 where it takes none, or waits for none.
+pub(crate) fn first_wait(bytes: &[u8]) -> u64
+    ensures { result ≡ first_wait bytes.now }
+{
+    let Some(end) = memchr(LF, bytes) else {
+        return 0;
+    };
+    match take_line(&bytes[..end]) {
+        Some(said) => said.seconds,
+        None => 0,
+    }
 }
 
 /// Whether a line, without its LF, is one that the server answers by itself.

@@ -9,9 +9,9 @@ ghost use Rattle.text_lines.specs.Lines.{has_no_lf};
 ghost use Rattle.text_lines.specs.declared.held.query.TheConstants.{QUERY_MAX};
 ghost use Rattle.service_loop.specs.Asking.{IsPrefixOf, IsQueryOf, IsTakingOf, MayAsk};
 ghost use Rattle.service_loop.specs.ConnectionBuffers.{goes_on_in_line, IsFull, AreNewBuffers, Takes, TakesFirst, TakesNoOwn};
-ghost use Rattle.service_loop.specs.Waiting.{has_room, is_at_line, is_prefix_of, waiting_query, waiting_taking, waits_for_more};
+ghost use Rattle.service_loop.specs.Waiting.{first_wait, has_room, is_at_line, is_prefix_of, waiting_query, waiting_taking, waits_for_more};
 
-use crate::asking::{before_query, first_query, first_taking, is_prefix_of};
+use crate::asking::{before_query, first_query, first_taking, first_wait, is_prefix_of};
 use crate::terms::Query;
 use model_asked::WorldKind;
 use model_steps::{NoMemory, View};
@@ -208,6 +208,13 @@ impl<A: Allocator> Buffers<A> {
             return None;
         }
         first_taking(&self.inbox)
+    }
+
+    /// For how many seconds the line that waits first waits for a number; 0 where it takes none, or waits for none.
+    pub fn wait(&self) -> u64
+        ensures { result ≡ first_wait self.now.inbox }
+    {
+        first_wait(&self.inbox)
     }
 
     /// The line that waits first, of so many bytes with its LF, was answered by what these replies are: they wait to be sent. Where memory is

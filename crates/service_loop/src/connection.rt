@@ -19,6 +19,7 @@ ghost use Rattle.service_loop.specs.Queries.{query_text};
 ghost use Rattle.service_loop.specs.ConnectionBuffers.{is_done, CanSend, CanTake, HasTakenAll, SomeTaken, Takes, TakesEnd, TakesPeeked, SendsTo};
 ghost use Rattle.service_loop.specs.Gathering.{GathersOf};
 ghost use Rattle.service_loop.specs.Taking.{MayTakeNumber};
+ghost use Rattle.service_loop.specs.TakeQueue.{wish_of};
 ghost use Rattle.service_loop.specs.Waiting.{given_up, may_take, taken_for};
 ghost use Rattle.service_loop.specs.declared.shared.TheConstants.{READ_ROOM};
 ghost use Rattle.service_loop.specs.declared.buffers.TheConstants.{UNSENT_ROOM, MOST_LINES};
@@ -28,7 +29,8 @@ use crate::peek::{Limits, Peek};
 use crate::persist::Persist;
 use crate::shared::{READ_ROOM, SharedBuffers};
 use crate::stream::Stream;
-use crate::taking::say_taking;
+use crate::take_line::TakeLine;
+use crate::taking::{is_crowded, say_taking};
 use crate::terms::{Query, Terms, put_answer};
 use model_asked::WorldKind;
 use std::alloc::Allocator;
@@ -135,6 +137,13 @@ impl<S: Stream, A: Allocator> Connection<S, A> {
         ensures { result ≡ is_done self.now.buffers }
     {
         self.buffers.is_broken() || (self.buffers.is_ended() && self.buffers.unsent().is_empty())
+    }
+
+    /// Whether it has something to send, and its stream takes it now.
+    pub fn can_send(&self) -> bool
+        ensures { IsTrue result ↔ CanSend self.now.writable self.now.buffers }
+    {
+        self.writable && !self.buffers.unsent().is_empty() && !self.buffers.is_broken()
     }
 
     /// Whether a turn more would have something to do, with nothing new told of its stream.
@@ -524,6 +533,16 @@ impl<S: Stream, A: Allocator> Connection<S, A> {
         }
     }
 
+    /// For whom it takes a number, where the line that waits first takes one and there is room for the answer, and for how many seconds it waits: for
+    /// none, where the end of what comes was told.
+    pub fn wish(&self) -> Option<TakeLine>
+        ensures { result ≡ wish_of (Some self.now) }
+    {
+        let identity = self.taking()?;
+        let seconds = if self.hung { 0 } else { self.buffers.wait() };
+        Some(TakeLine { identity, seconds })
+    }
+
     /// Where it takes a number, the lines of that went to the persister, and what they are answered is not known: then it is at fault.
     pub fn give_up_taking(&mut self)
         ensures { self.new ≡ record self.old { buffers = given_up self.old.buffers } }
@@ -533,8 +552,8 @@ impl<S: Stream, A: Allocator> Connection<S, A> {
         }
     }
 
-    /// Takes a number, where the line that waits first is `take ID` and there is room for the answer: by events of the service, one after another, of
-    /// which the last reply is the answer (`say_taking`).
+    /// Takes a number, where the line that waits first takes one and there is room for the answer: by events of the service, one after another, of
+    /// which the last reply is the answer (`say_taking`). Where those who are called are patient, one that is refused since all are held waits on.
     pub fn take_number<R, D: Service<R>, B: Allocator>(
         &mut self,
         rt: &R,
@@ -556,6 +575,9 @@ impl<S: Stream, A: Allocator> Connection<S, A> {
         }
         if let Some((identity, count)) = self.buffers.taking() {
             let reply = say_taking(rt, service, &mut shared.view, identity, wide, ahead);
+            if shared.patient && is_crowded(&reply) {
+                return;
+            }
             print_reply(reply, &shared.view, &mut shared.replies);
             self.buffers.answer(count, &mut shared.replies);
         }

@@ -15,6 +15,7 @@ use crate::failing::fail_keepers;
 use crate::persist::Persist;
 use crate::seat_numbers::SeatNumbers;
 use crate::socket::Socket;
+use crate::take_queue::TakeQueue;
 use crate::turns::number_at;
 use mio::event::Event;
 use mio::{Poll, Token};
@@ -250,8 +251,9 @@ impl ConnectionTable {
         Ok(())
     }
 
-    // After its turn a connection leaves, or is due again, or waits for the system.
-    fn settle_one(&mut self, key: usize, tick: u64) -> Result<(), AllocError> {
+    // After its turn a connection leaves, or is due again, or waits for the system; one that waits for a number is due only if it can send.
+    fn settle_one(&mut self, key: usize, tick: u64, queue: &TakeQueue) -> Result<(), AllocError> {
+        let waits = queue.has(number_at(self.numbers.all(), key));
         let Some(connection) = self.seated(key) else {
             return Ok(());
         };
@@ -264,7 +266,7 @@ impl ConnectionTable {
         } else if connection.buffers.unsent().is_empty() {
             connection.stream.end();
         }
-        if connection.goes_on() {
+        if connection.goes_on() && (!waits || connection.can_send()) {
             connection.stage = ConnectionStage::Queued;
             self.later.push(key)?;
         }
@@ -330,18 +332,45 @@ impl ConnectionTable {
         fail_keepers(&mut self.seats, self.numbers.all(), stays, &mut self.ready)
     }
 
-    /// After a turn in which the first `called` ready seats were called: those that have more to do are due again, behind the others.
+    // A connection that was called to take a number is due again, whether it took one or not.
+    fn wake(&mut self, key: usize) -> Result<(), AllocError> {
+        let Some(connection) = self.seated(key) else {
+            return Ok(());
+        };
+        if connection.stage == ConnectionStage::Idle {
+            connection.stage = ConnectionStage::Queued;
+            self.later.push(key)?;
+        }
+        Ok(())
+    }
+
+    // The same, of all that were.
+    fn wake_all(&mut self, called: &[usize]) -> Result<(), AllocError> {
+        for key in called {
+            self.wake(*key)?;
+        }
+        Ok(())
+    }
+
+    /// After a turn in which the first `called` ready seats were called: those that have more to do are due again, behind the others, and those that
+    /// were called to take numbers.
     ///
     /// # Errors
     ///
     /// `AllocError`: the list of connections that are due could not grow.
-    pub fn settle(&mut self, called: usize, tick: u64) -> Result<(), AllocError> {
+    pub fn settle(
+        &mut self,
+        called: usize,
+        tick: u64,
+        queue: &TakeQueue,
+    ) -> Result<(), AllocError> {
         for at in 0..called {
             if at < self.ready.len() {
                 let key = self.ready[at];
-                self.settle_one(key, tick)?;
+                self.settle_one(key, tick, queue)?;
             }
         }
+        self.wake_all(queue.called())?;
         let from = called.min(self.ready.len());
         self.queue_again(from)
     }
@@ -359,7 +388,7 @@ impl ConnectionTable {
         Ok(())
     }
 
-    /// Closes each connection of which nothing came or went for `idle` ticks, or for ten if it is at its end.
+    /// Closes each connection of which nothing came or went for `idle` ticks, or for ten if it is at its end, but none that waits for a number.
     ///
     /// # Errors
     ///
@@ -368,10 +397,11 @@ impl ConnectionTable {
         &mut self,
         tick: u64,
         idle: Option<u64>,
+        queue: &TakeQueue,
         audit: &mut Audit,
     ) -> Result<(), AllocError> {
         for key in 0..self.seats.len() {
-            self.sweep_one(key, tick, idle, audit)?;
+            self.sweep_one(key, tick, idle, queue, audit)?;
         }
         Ok(())
     }
@@ -382,11 +412,15 @@ impl ConnectionTable {
         key: usize,
         tick: u64,
         idle: Option<u64>,
+        queue: &TakeQueue,
         audit: &mut Audit,
     ) -> Result<(), AllocError>
         ensures { is_swept tick idle (get_or self.old.seats.items key None) ≡ false → (self.new.seats ≡ self.old.seats) × (self.new.ended ≡ self.old.ended) }
     {
         if !is_swept_at(&self.seats, key, tick, idle) {
+            return Ok(());
+        }
+        if queue.has(number_at(self.numbers.all(), key)) {
             return Ok(());
         }
         if !is_leaving_at(&self.seats, key) {

@@ -25,6 +25,7 @@ use crate::persist::Persist;
 use crate::releasing::end_due;
 use crate::shared::SharedBuffers;
 use crate::socket::Socket;
+use crate::take_queue::TakeQueue;
 use crate::taking::{prefetch_takings, serve_takings};
 use crate::teller::Teller;
 use crate::terms::Terms;
@@ -106,6 +107,8 @@ struct Hosting {
     events: Events<Global>,
     doors: Doors,
     connections: ConnectionTable,
+    /// Those who wait for numbers.
+    queue: TakeQueue,
     start: Instant,
     /// The second since the start that is under way.
     second: u64,
@@ -153,6 +156,7 @@ impl Drop for Hosting {
             events: _,
             doors: _,
             connections: _,
+            queue: _,
             start: _,
             second: _,
             tick: _,
@@ -309,6 +313,7 @@ impl Hosting {
             events,
             doors,
             connections: ConnectionTable::new(alloc, options.clients)?,
+            queue: TakeQueue::new(alloc),
             start,
             second: 0,
             tick: 0,
@@ -480,7 +485,8 @@ impl Hosting {
         audit.note_time(rt);
         if self.sweeps && !self.note_events(Duration::from_millis(0))? {
             self.sweeps = false;
-            self.connections.sweep(self.tick, self.options.idle, audit)?;
+            self.connections
+                .sweep(self.tick, self.options.idle, &self.queue, audit)?;
         }
         Ok(())
     }
@@ -636,10 +642,14 @@ impl Hosting {
         let Called::Served(count) = called else {
             return Ok(());
         };
-        if !shared.waits {
+        if !shared.waits && self.queue.is_empty() {
             return Ok(());
         }
-        match self.take_numbers_of(rt, wide, service, persister, shared, count) {
+        shared.patient = self.call_takers(&service.service, persister, count)?;
+        if self.queue.called().is_empty() {
+            return Ok(());
+        }
+        match self.take_numbers_of(rt, wide, service, persister, shared) {
             Ok(taken) => {
                 self.note_lost(taken);
                 Ok(())
@@ -648,7 +658,27 @@ impl Hosting {
         }
     }
 
-    // Takes numbers for those of the first of the seats that are ready who say `take`, where any do.
+    // Chooses who takes a number now, of those who wait and of those of the first of the seats that are ready. Says whether they wait on where they are
+    // refused.
+    fn call_takers<D, K: Persist<D>>(
+        &mut self,
+        service: &D,
+        persister: &K,
+        count: usize,
+    ) -> Result<bool, AllocError>
+        ensures same { self.new.connections ≡ self.old.connections }
+    {
+        let few = count.min(self.connections.ready.len());
+        let seats = &self.connections.seats;
+        let numbers = self.connections.numbers.all();
+        self.queue.let_go(seats, numbers);
+        let ready = &self.connections.ready[..few];
+        self.queue
+            .note(service, persister, seats, numbers, ready, self.tick)?;
+        self.queue.call(persister.room(service), self.tick)
+    }
+
+    // Takes numbers for those who are called.
     fn take_numbers_of<R, D: Service<R>, K: Persist<D>>(
         &mut self,
         rt: &R,
@@ -656,7 +686,6 @@ impl Hosting {
         service: &mut Attended<D>,
         persister: &mut K,
         shared: &mut SharedBuffers<Global>,
-        count: usize,
     ) -> Result<Called, K::Fault>
         requires knows { (q : Request) → D.knows q ≡ true }
         requires room { AreShared shared.old }
@@ -665,26 +694,18 @@ impl Hosting {
             persister.old service.old persister.new service.new) }
         ensures sent { OnOk result (HasSent sockets self.old.connections.seats.items self.new.connections.seats.items) }
     {
-        let ConnectionTable {
-            seats,
-            numbers,
-            ready,
-            ..
-        } = &mut self.connections;
-        let first = &ready[..count.min(ready.len())];
+        let ConnectionTable { seats, numbers, .. } = &mut self.connections;
         let numbers = numbers.all();
-        if !any_takes(seats, first) {
-            return Ok(Called::Served(count));
-        }
+        let called = self.queue.called();
         match &mut self.batch {
             None => {
                 serve_takings(
-                    rt, service, persister, shared, seats, numbers, first, wide, false,
+                    rt, service, persister, shared, seats, numbers, called, wide, false,
                 )?;
-                Ok(Called::Served(count))
+                Ok(Called::Served(called.len()))
             }
             Some(batch) => prefetch_takings(
-                rt, service, persister, batch, shared, seats, numbers, first, wide,
+                rt, service, persister, batch, shared, seats, numbers, called, wide,
             ),
         }
     }
@@ -715,7 +736,8 @@ impl Hosting {
     // After the turn of so many: where one has left, another may be accepted again.
     fn settle<F>(&mut self, called: usize) -> Result<(), HostFault<F>> {
         let before = self.connections.open;
-        self.connections.settle(called, self.tick)?;
+        self.connections.settle(called, self.tick, &self.queue)?;
+        self.queue.clear_called();
         self.full = self.full && before <= self.connections.open;
         Ok(())
     }
@@ -979,20 +1001,6 @@ impl Hosting {
         put_line(format!(in self.alloc; "served {served}\n"), output)?;
         Ok(Hosted { served })
     }
-}
-
-// Whether the connection of any of these seats takes a number.
-fn any_takes(seats: &[Option<Connection<Socket, Global>>], called: &[usize]) -> bool {
-    for key in called {
-        if *key < seats.len() {
-            if let Some(connection) = &seats[*key] {
-                if connection.taking().is_some() {
-                    return true;
-                }
-            }
-        }
-    }
-    false
 }
 
 // Writes a line, where there was memory for it.

@@ -4,6 +4,7 @@ ghost use Rattle.std.specs.Prelude.{ℕ, Bool, Option};
 ghost use Rattle.service_loop.specs.Attendance.{KeepsGrace};
 ghost use Rattle.service_loop.specs.ConnectionBuffers.{NeedsLf};
 ghost use Rattle.service_loop.specs.Sendings.{hosted};
+ghost use Rattle.service_loop.specs.TakeQueue.{IsInTurn};
 
 use crate::persist::Persist;
 use model_pool::stays::law_of_grace;
@@ -13,6 +14,14 @@ use text_player::Service;
 /// there is no turn, at the end of what comes neither. So no event of an iteration is of a line that no LF ended.
 pub fn law_of_cut_lines()
     ensures { NeedsLf }
+{}
+
+/// A law, which runs nothing, of those who wait for numbers (`TakeQueue::call`): first come, first served.
+///
+/// While more may hold a number, those who are called came before all others who wait. Who does not wait is called only where nobody waits, or no more may
+/// hold one.
+pub fn law_of_the_queue()
+    ensures { IsInTurn }
 {}
 
 /// A law, which runs nothing, of the stays that a server ends (`WasAttended`, of `host`).

@@ -4,6 +4,7 @@ ghost use Rattle.std.specs.Prelude.{◌≡◌, ◌≤◌, ◌+◌, ◌++◌, ℕ
 ghost use Rattle.model_pool.specs.Competitors.{stay_of};
 ghost use Rattle.text_lines.specs.declared.replies.TheConstants.{HELD_REPLIES};
 ghost use Rattle.model_pool.specs.slots.SlotsState.{SlotsState};
+ghost use Rattle.service_loop.specs.Rooms.{room_in};
 ghost use Rattle.text_lines.specs.held.Held.{held_text};
 ghost use Rattle.text_lines.specs.declared.held.telling.TheConstants.{HELD_ROOM};
 
@@ -49,6 +50,10 @@ pub trait Persist<D> {
         requires room { length out.old + HELD_ROOM ≤ HELD_REPLIES }
         ensures text { out.new ≡ out.old ++ held_text (holds self.now service.now) query }
         ensures short { length out.new ≤ length out.old + HELD_ROOM };
+
+    /// How many more may hold a number: those that nobody holds, but one for each who competes and holds none yet.
+    fn room(&self, service: &D) -> u64
+        ensures { result ≡ room_in (holds self.now service.now) };
 
     /// Whether so much is to be kept before any other connection has its turn. It is not asked where `most_prefetched` is some:
     /// then each connection has its turn whose lines are in the batch.

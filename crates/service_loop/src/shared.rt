@@ -24,6 +24,8 @@ pub struct SharedBuffers<A: Allocator> {
     pub share: usize,
     /// Whether a connection that had its turn since `share_among` left something to wait, as a line that asks who holds numbers or takes one.
     pub waits: bool,
+    /// Whether those who take numbers wait on where all are held.
+    pub patient: bool,
 }
 
 impl<A: Allocator + Clone> SharedBuffers<A> {
@@ -48,6 +50,7 @@ impl<A: Allocator + Clone> SharedBuffers<A> {
             replies,
             share: READ_ROOM,
             waits: false,
+            patient: false,
         })
     }
 }

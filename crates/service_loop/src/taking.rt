@@ -15,7 +15,7 @@ ghost use Rattle.service_loop.specs.Losing.{lost_acts};
 ghost use Rattle.service_loop.specs.Searching.{most_said, searched};
 ghost use Rattle.service_loop.specs.Seats.{seats_of, NoneSent};
 ghost use Rattle.service_loop.specs.SharedBuffers.{AreShared};
-ghost use Rattle.service_loop.specs.Taking.{IsTaking, NumbersTaken, SaysTaking, SeatGivenUp, SeatTook, TakingsGivenUp, TakingsKept, TakingsPrefetched, events_for, events_of, seat_taken_for, wants_search};
+ghost use Rattle.service_loop.specs.Taking.{IsTaking, NumbersTaken, SaysTaking, SeatGivenUp, SeatTook, TakingsGivenUp, is_crowded, TakingsKept, TakingsPrefetched, events_for, events_of, seat_taken_for, wants_search};
 
 use crate::attended::Attended;
 use crate::audit::Asker;
@@ -28,7 +28,7 @@ use crate::shared::SharedBuffers;
 use crate::stream::Stream;
 use crate::turns::{number_at, send_replies};
 use model_asked::{Event, Reply};
-use model_steps::View;
+use model_steps::{Refusal, View};
 use std::alloc::{AllocError, Allocator};
 use text_lines::{Replies, print_event};
 use text_player::Service;
@@ -44,6 +44,13 @@ fn wants_search(reply: &Reply<()>) -> bool
     ensures { result ≡ wants_search reply.now }
 {
     matches!(reply, Reply::Ok | Reply::Missed)
+}
+
+/// Whether this refuses a number since as many compete as may.
+pub(crate) fn is_crowded(reply: &Reply<()>) -> bool
+    ensures { result ≡ is_crowded reply.now }
+{
+    matches!(reply, Reply::Refused(Refusal::Crowded))
 }
 
 // What `take` of an identity said, and how often it searched for a number.

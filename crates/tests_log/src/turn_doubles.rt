@@ -157,6 +157,10 @@ impl Persist<Reported> for Teller {
         }
     }
 
+    fn room(&self, _service: &Reported) -> u64 {
+        0
+    }
+
     fn is_full(&self, _service: &Reported) -> bool {
         false
     }

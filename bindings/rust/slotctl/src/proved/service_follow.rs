@@ -1,4 +1,4 @@
-// Erased by bindings/rust/erase from crates/service_follow/src/lib.rt, sha256 184da5111db8e3eb6c5155abbbe3c52662ba9be3816da3db1fe7049153176c80.
+// Erased by bindings/rust/erase from crates/service_follow/src/lib.rt, sha256 b3b1e69cf8bffeac446b9126521c9eea89766c33a7fee6a5e65ab13e092aacea.
 //! A hall whose history is a log that several machines share.
 //!
 //! `HallMachine` is a hall as the machine of a `service_log::Replica`: an entry of the log is a first line, a token of its own, and then lines

@@ -1,4 +1,4 @@
-// Erased by bindings/rust/erase from crates/service_loop/src/lib.rt, sha256 7fb6734cca0d332cb68feb69874010af4d3f38e05412d8204d8d554bb4672628.
+// Erased by bindings/rust/erase from crates/service_loop/src/lib.rt, sha256 b1505476835d1bf014094e1ec909ed968d964c93494ea918a15f26fac11b37f5.
 //! Connections that share one service, in one thread.
 //!
 //! `Buffers` are a connection without its stream: one side of a transcript (`Responder`), what came and is not taken yet, and what was said and is not
@@ -72,6 +72,8 @@ pub mod seat_numbers;
 pub mod shared;
 pub mod socket;
 pub mod stream;
+mod take_line;
+pub mod take_queue;
 pub mod taking;
 pub mod teller;
 pub mod terms;

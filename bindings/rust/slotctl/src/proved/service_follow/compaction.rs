@@ -1,4 +1,4 @@
-// Erased by bindings/rust/erase from crates/service_follow/src/compaction.rt, sha256 e2b96713d60af3e6bae0bd75591b7e9cfd1ef251050c9d54d88907275e2ff1a3.
+// Erased by bindings/rust/erase from crates/service_follow/src/compaction.rt, sha256 b14357a76af9cc6fe47c475334e2fdb6875c0702d6a46845439808861aff083f.
 //! Compactions that a front end offers.
 
 use crate::kit::alloc::{AllocError, Global};
@@ -16,6 +16,7 @@ use crate::proved::service_follow::reply_queue::ReplyQueue;
 use crate::proved::service_hall::compactor::Compactor;
 use crate::proved::service_hall::hall::Hall;
 use crate::proved::service_log::replica::{Step, MOST_BATCH};
+use crate::proved::service_log::serve_fault::Cause;
 use crate::proved::service_log::store::Store;
 
 /// When a compaction is due, and those of others are minded.
@@ -195,6 +196,13 @@ fn put_last(
     Ok(())
 }
 
+// Whether what was offered stands.
+fn is_answered(offered: Result<Step, Cause>) -> Result<bool, LogFault> {
+    let stands = matches!(offered, Ok(Step::Answered));
+    LogFault::unless_gone(offered)?;
+    Ok(stands)
+}
+
 impl Work {
     // Nothing was asked yet.
     fn new() -> Work {
@@ -307,14 +315,7 @@ impl Compaction {
         reply_queue: &mut ReplyQueue,
     ) -> Result<bool, LogFault> {
         self.count = self.count.wrapping_add(1);
-        match log.offer(&self.entry, reply_queue) {
-            Ok(Step::Answered) => Ok(true),
-            Ok(_) => Ok(false),
-            Err(cause) => match LogFault::of_cause(cause) {
-                Some(fault) => Err(fault),
-                None => Ok(false),
-            },
-        }
+        is_answered(log.offer(&self.entry, reply_queue))
     }
 
     // Begins if a compaction is due, and builds the hall with the shorter history. Where none is shorter, it tells the same: who starts passes over the

@@ -1,4 +1,4 @@
-// Erased by bindings/rust/erase from crates/service_follow/src/log_fault.rt, sha256 1b751f8cd3776f415e045345cc4987407757e5dd1e64bd230a9a46ba2810005e.
+// Erased by bindings/rust/erase from crates/service_follow/src/log_fault.rt, sha256 0b894c663ecaf1e002a03a58933ad51e6b73310d441ceb58e0cb3bec921eda41.
 //! Why a hall over a log is not served, or no more.
 
 use crate::proved::model_steps::refusal::Refusal;
@@ -56,7 +56,22 @@ impl LogFault {
         }
     }
 
-    /// The same, of a fault of the store.
+    /// What comes of a call of a log that may be made again.
+    ///
+    /// # Errors
+    ///
+    /// The fault behind which nothing more is served, where the call met one (`of_cause`).
+    pub fn unless_gone<T>(tried: Result<T, Cause>) -> Result<(), LogFault> {
+        match tried {
+            Ok(_) => Ok(()),
+            Err(cause) => match LogFault::of_cause(cause) {
+                Some(fault) => Err(fault),
+                None => Ok(()),
+            },
+        }
+    }
+
+    /// The fault behind which nothing more is served, of a fault of the store.
     pub fn of_store(fault: StoreFault) -> Option<LogFault> {
         match fault {
             StoreFault::WentBack => Some(LogFault::WentBack),

@@ -1,4 +1,4 @@
-// Erased by bindings/rust/erase from crates/service_follow/src/log_persister.rt, sha256 3be301ffe17a9551e049a5cc5e930b77834d431fb292eaec43869057c9fa047a.
+// Erased by bindings/rust/erase from crates/service_follow/src/log_persister.rt, sha256 b6001ae12dffb6190ca18e888fd819b47732a39dcd8fe9704b89fab4861f0b01.
 //! Serves the clients of one front end over a log.
 
 use crate::kit::alloc::{AllocError, Allocator, Global};
@@ -18,7 +18,7 @@ use crate::proved::service_follow::reading::{put_replies, reads_in, Read};
 use crate::proved::service_follow::release_lines::lines_of;
 use crate::proved::service_follow::reply_queue::ReplyQueue;
 use crate::proved::service_follow::sessions::Sessions;
-use crate::proved::service_follow::tallying::tally_of;
+use crate::proved::service_follow::tallying::{room_of, tally_of};
 use crate::proved::service_hall::hall::Hall;
 use crate::proved::service_hall::reads::Reads;
 use crate::proved::service_hall::rules::Rules;
@@ -554,13 +554,7 @@ impl<S: Store, T: Pause> LogPersister<S, T> {
             return Err(LogFault::Memory);
         };
         self.count = count;
-        let Err(cause) = self.log.offer(&self.batch, reply_queue) else {
-            return Ok(());
-        };
-        match LogFault::of_cause(cause) {
-            Some(fault) => Err(fault),
-            None => Ok(()),
-        }
+        LogFault::unless_gone(self.log.offer(&self.batch, reply_queue))
     }
 
     // Reads the log to its end, and offers a change unless the hall has its terms. `None` where that is to be done once more.
@@ -585,10 +579,7 @@ impl<S: Store, T: Pause> LogPersister<S, T> {
             return Ok(Some(TermsChange::Held));
         }
         self.offer_change(reply_queue)?;
-        if self.tells_own() {
-            return Ok(Some(TermsChange::Stands));
-        }
-        Ok(None)
+        Ok(self.tells_own().then_some(TermsChange::Stands))
     }
 
     /// Has the terms of the hall be those that this was opened for (`open_any`), by an entry of its own. A change stands at a place up to which all was
@@ -707,6 +698,10 @@ impl<S: Store, T: Pause> Persist<ReplyQueue> for LogPersister<S, T> {
         put_held(self.log.hall().slots(), query, out);
     }
 
+    fn room(&self, _reply_queue: &ReplyQueue) -> u64 {
+        room_of(self.log.hall())
+    }
+
     fn is_full(&self, _reply_queue: &ReplyQueue) -> bool {
         false
     }
@@ -789,7 +784,7 @@ impl<S: Store, T: Pause> Persist<ReplyQueue> for LogPersister<S, T> {
             log_since_compaction: Some(self.log.entries_since_compaction()),
             log_answers: Some(self.answers),
             compactions: Some(self.log.compactions()),
-            ..tally_of(self.log.hall())
+            ..tally_of(self.alloc, self.log.hall())
         }
     }
 }

@@ -1,8 +1,8 @@
-// Erased by bindings/rust/erase from crates/service_host/src/persisters.rt, sha256 4748e8d98d3ac4d879d864b0d107b617372fd39d1933cf773173862d20a3f79d.
+// Erased by bindings/rust/erase from crates/service_host/src/persisters.rt, sha256 6c166b608dbf4eedf2b07adf49e3f831448dd54941d4f8396a6ba4f19d64af2f.
 //! What is kept of the turns of a loop over a hall.
 
 use crate::kit::alloc::{Allocator, Global};
-use crate::proved::service_follow::tallying::tally_of;
+use crate::proved::service_follow::tallying::{room_of, tally_of};
 use crate::proved::service_hall::compactor::Compactor;
 use crate::proved::service_hall::hall::Hall;
 use crate::proved::service_host::reading::Reading;
@@ -55,6 +55,10 @@ impl Persist<Reading<Hall>> for Unrecorded {
         out: &mut Replies<B>,
     ) {
         put_held(reading.service.slots(), query, out);
+    }
+
+    fn room(&self, reading: &Reading<Hall>) -> u64 {
+        room_of(&reading.service)
     }
 
     fn is_full(&self, _reading: &Reading<Hall>) -> bool {
@@ -118,7 +122,7 @@ impl Persist<Reading<Hall>> for Unrecorded {
     fn tally(&self, reading: &Reading<Hall>) -> Tally {
         Tally {
             compactions: Some(self.compactions),
-            ..tally_of(&reading.service)
+            ..tally_of(self.alloc, &reading.service)
         }
     }
 }
@@ -169,6 +173,10 @@ impl<D: Disk> Persist<Reading<WriteAhead>> for Recorded<D> {
         out: &mut Replies<B>,
     ) {
         put_held(reading.service.hall().slots(), query, out);
+    }
+
+    fn room(&self, reading: &Reading<WriteAhead>) -> u64 {
+        room_of(reading.service.hall())
     }
 
     fn is_full(&self, reading: &Reading<WriteAhead>) -> bool {
@@ -241,7 +249,7 @@ impl<D: Disk> Persist<Reading<WriteAhead>> for Recorded<D> {
             compactions: self.journal.disk().replacings(),
             journal_bytes: Some(self.journal.disk().size()),
             syncs: self.journal.disk().sync_times(),
-            ..tally_of(reading.service.hall())
+            ..tally_of(self.alloc, reading.service.hall())
         }
     }
 }

@@ -1,4 +1,4 @@
-// Erased by bindings/rust/erase from crates/service_host/src/start.rt, sha256 881bc76c9eaadf19ecd728a719e259e866d24564bc50eb74193374be9711cc6c.
+// Erased by bindings/rust/erase from crates/service_host/src/start.rt, sha256 cf223c99ed68db2b9808aa9746d20a96eed2fb7a075a05d348aa956aa0e36e98.
 //! A whole server of a hall, by its plan.
 
 use crate::kit::alloc::{AllocGlobal, Global};
@@ -24,12 +24,10 @@ use crate::proved::service_host::export::write_events;
 use crate::proved::service_host::failure::HostFailure;
 use crate::proved::service_host::holders::config_of;
 use crate::proved::service_host::keepers::stays_at_start;
-use crate::proved::service_host::log_plan::{
-    fresh_token, members_of, LogPlan, Patience, MEMBER_SECONDS,
-};
+use crate::proved::service_host::log_plan::{members_of, LogPlan, Patience, MEMBER_SECONDS};
 use crate::proved::service_host::persisters::{Recorded, Unrecorded};
 use crate::proved::service_host::reading::Reading;
-use crate::proved::service_host::sizes::{are_alike_but_size, config_in};
+use crate::proved::service_host::sizes::{are_alike_but_size, config_and_token};
 use crate::proved::service_host::terms::{followed_any, terms_by, warn_of_none};
 use crate::proved::service_host::widening::{
     check_size, widen_followed, widen_recorded, SizeAsked,
@@ -39,6 +37,7 @@ use crate::proved::service_journal::file_disk::FileDisk;
 use crate::proved::service_journal::journal::{Journal, NotOpened, Opened};
 use crate::proved::service_journal::opening::OpenFault;
 use crate::proved::service_journal::sealed_disk::SealedDisk;
+use crate::proved::service_journal::write_ahead::WriteAhead;
 use crate::proved::service_log::etcd::dial::TcpDial;
 use crate::proved::service_log::etcd::etcd_store::EtcdStore;
 use crate::proved::service_log::store::Store;
@@ -187,16 +186,14 @@ where
     }
 }
 
-// Serves what was read of a journal, which is compacted before where it is long.
-fn host_recorded<R: Net + Wait + Clock + Files, D: Disk, L: AuditLog, W: Write, E: Write>(
+// What serves a hall that was read of a journal: it is compacted before where it is long, and widened where the plan asks for more numbers.
+fn recorded<R, D: Disk, E: Write>(
     rt: &R,
     alloc: Global,
     plan: &HostPlan<'_>,
     opened: Opened<D>,
-    audit: &mut L,
-    output: &mut W,
     errors: &mut E,
-) -> Result<(), HostFailure> {
+) -> Result<(Reading<WriteAhead>, Recorded<D>), HostFailure> {
     let Opened {
         journal,
         mut write_ahead,
@@ -217,17 +214,29 @@ fn host_recorded<R: Net + Wait + Clock + Files, D: Disk, L: AuditLog, W: Write, 
         service: write_ahead,
         rules: Rules::all(plan.rules.reads),
     };
-    if let Err(failure) = widen_recorded(
-        rt,
-        alloc,
-        plan.size_asked(),
-        &mut reading,
-        &mut persister,
-        errors,
-    ) {
-        return Err(failure);
+    let asked = plan.size_asked();
+    match widen_recorded(rt, alloc, asked, &mut reading, &mut persister, errors) {
+        Ok(()) => {}
+        Err(failure) => return Err(failure),
     }
     reading.rules = plan.rules;
+    Ok((reading, persister))
+}
+
+// Serves what was read of a journal.
+fn host_recorded<R: Net + Wait + Clock + Files, D: Disk, L: AuditLog, W: Write, E: Write>(
+    rt: &R,
+    alloc: Global,
+    plan: &HostPlan<'_>,
+    opened: Opened<D>,
+    audit: &mut L,
+    output: &mut W,
+    errors: &mut E,
+) -> Result<(), HostFailure> {
+    let (reading, mut persister) = match recorded(rt, alloc, plan, opened, errors) {
+        Ok(recorded) => recorded,
+        Err(failure) => return Err(failure),
+    };
     let stays = match stays_at_start(alloc, reading.service.hall(), plan.grace) {
         Ok(stays) => stays,
         Err(failure) => return Err(failure),
@@ -320,12 +329,8 @@ fn followed<R: Files<File = File>, S: Store, P: Pause>(
     terms: HallTerms,
 ) -> Result<LogPersister<S, P>, HostFailure> {
     let (mut store, mut pause) = (store, pause);
-    let config = match config_in(alloc, &mut store, &mut pause, config) {
-        Ok(config) => config,
-        Err(failure) => return Err(failure),
-    };
-    match fresh_token(rt) {
-        Ok(token) => Ok(LogPersister::open(
+    match config_and_token(rt, alloc, &mut store, &mut pause, config) {
+        Ok((config, token)) => Ok(LogPersister::open(
             alloc, store, pause, config, token, terms,
         )?),
         Err(failure) => Err(failure),

@@ -1,4 +1,4 @@
-// Erased by bindings/rust/erase from crates/service_log/src/replica.rt, sha256 58b451a81f4c30eeb34adbb27056cb5e4ab8404dc25bd663007619518d655b84.
+// Erased by bindings/rust/erase from crates/service_log/src/replica.rt, sha256 44e48948bede22834fa0a95e3495ba62b173269ffee8cc1ab5f3a70af57f32e3.
 //! A machine that follows a log.
 
 use crate::kit::alloc::Global;
@@ -127,12 +127,15 @@ impl<M: Machine> Replica<M> {
         Ok(Step::Answered)
     }
 
-    // Applies the entry at the next place. Returns false if the place is empty or past the end of the log.
+    // Applies the entry at the next place, and drops its replies. Returns false if the place is empty or past the end of
+    // the log.
     fn pass<S: Store>(&mut self, store: &mut S, replies: &mut M::Replies) -> Result<bool, Cause> {
         if self.place >= MOST_PLACES {
             return Ok(false);
         }
-        Ok(self.follow(store, &[], replies)? != Step::Nothing)
+        let step = self.follow(store, &[], replies);
+        M::forget(replies);
+        Ok(step? != Step::Nothing)
     }
 
     // Makes one step for a batch as `step` does, and leaves any replies.
@@ -220,25 +223,6 @@ impl<M: Machine> Replica<M> {
         Err(ServeFault::Unknown(Cause::Busy))
     }
 
-    // Applies entries of the log as `catch_up` does, and leaves any replies.
-    fn pass_all<S: Store>(
-        &mut self,
-        store: &mut S,
-        most: u64,
-        replies: &mut M::Replies,
-    ) -> Result<u64, Cause> {
-        if self.poisoned {
-            return Err(Cause::Poisoned);
-        }
-        for passed in 0..most {
-            let stood = self.pass(store, replies)?;
-            if !stood {
-                return Ok(passed);
-            }
-        }
-        Ok(most)
-    }
-
     /// Applies the next entries of the log, at most `most`, and returns how many they were. It drops their replies.
     ///
     /// It applies fewer than `most` only if the store reports the next place as empty, or at the end of the log.
@@ -257,8 +241,16 @@ impl<M: Machine> Replica<M> {
         most: u64,
         replies: &mut M::Replies,
     ) -> Result<u64, Cause> {
-        let result = self.pass_all(store, most, replies);
         M::forget(replies);
-        result
+        if self.poisoned {
+            return Err(Cause::Poisoned);
+        }
+        for passed in 0..most {
+            let stood = self.pass(store, replies)?;
+            if !stood {
+                return Ok(passed);
+            }
+        }
+        Ok(most)
     }
 }

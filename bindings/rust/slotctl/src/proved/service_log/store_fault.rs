@@ -1,35 +1,25 @@
-// Erased by bindings/rust/erase from crates/service_log/src/store_fault.rt, sha256 db1e4de9b668d9e8c1b87d6d953ff06800388062cddce6cc83f41765c787e3a4.
+// Erased by bindings/rust/erase from crates/service_log/src/store_fault.rt, sha256 79bafe1d1aecbc3d79ceca11501a46c31754b1e5caf9a67b29950b7dbf3485e0.
 //! Why a store does not answer.
 
-use std::error::Error;
-use std::fmt;
+use crate::kit::thiserror::Error;
 
 /// Why a store does not answer. After a put that fails its entry may be at its place, or get there later.
-#[derive(Clone, Copy, Debug, PartialEq, Eq)]
+#[derive(Clone, Copy, Debug, PartialEq, Eq, Error)]
 pub enum StoreFault {
     /// An allocation failed.
+    #[error("no memory")]
     Memory,
     /// No answer came, or none in time.
+    #[error("the store does not answer")]
     Lost,
     /// The answer was not one that a store gives.
+    #[error("the store answers wrongly")]
     Wrong,
     /// The store has no room for more: its quota is used up.
+    #[error("etcdserver: mvcc: database space exceeded")]
     NoSpace,
     /// The place before this one does not hold what was written or read there. The store was put back to an older
     /// state.
+    #[error("the log went back")]
     WentBack,
 }
-
-impl fmt::Display for StoreFault {
-    fn fmt(&self, f: &mut fmt::Formatter<'_>) -> fmt::Result {
-        f.write_str(match self {
-            StoreFault::Memory => "no memory",
-            StoreFault::Lost => "the store does not answer",
-            StoreFault::Wrong => "the store answers wrongly",
-            StoreFault::NoSpace => "etcdserver: mvcc: database space exceeded",
-            StoreFault::WentBack => "the log went back",
-        })
-    }
-}
-
-impl Error for StoreFault {}

@@ -1,10 +1,10 @@
-// Erased by bindings/rust/erase from crates/service_loop/src/asking.rt, sha256 3ab54ac54c5aeaa4d1792e36f55b874ffcfb98e882d23adabc127bd163b7132f.
+// Erased by bindings/rust/erase from crates/service_loop/src/asking.rt, sha256 d8e47eb0318acd94b64dc1acb2a0ab2286bf84384850dd3eb56de67da56e1f8f.
 //! Lines that the server answers by itself, among bytes: those that ask who holds numbers or the terms, and those that take a number.
 
 use crate::kit::memchr::{memchr, memrchr};
+use crate::proved::service_loop::take_line::take_line;
 use crate::proved::service_loop::terms::{query_of, Query};
 use crate::proved::text_lines::held::query::QUERY_MAX;
-use crate::proved::text_lines::words::{is_word, number};
 
 /// What ends a line.
 const LF: u8 = 10;
@@ -30,11 +30,10 @@ pub(crate) fn first_query(bytes: &[u8]) -> Option<(Query, usize)> {
 
 /// The identity for which a line, without its LF, takes a number; `None` where it takes none.
 pub(crate) fn taking_of(line: &[u8]) -> Option<u64> {
-    let front = line.len().min(5);
-    if !is_word(&line[..front], b"take ") {
-        return None;
+    match take_line(line) {
+        Some(said) => Some(said.identity),
+        None => None,
     }
-    number(&line[front..])
 }
 
 /// For which identity the first line of these bytes takes a number, where it takes one, and how many bytes it has with its LF.
@@ -42,6 +41,17 @@ pub(crate) fn first_taking(bytes: &[u8]) -> Option<(u64, usize)> {
     let end = memchr(LF, bytes)?;
     let identity = taking_of(&bytes[..end])?;
     Some((identity, end + 1))
+}
+
+/// For how many seconds the first line of these bytes waits for a number; 0 where it takes none, or waits for none.
+pub(crate) fn first_wait(bytes: &[u8]) -> u64 {
+    let Some(end) = memchr(LF, bytes) else {
+        return 0;
+    };
+    match take_line(&bytes[..end]) {
+        Some(said) => said.seconds,
+        None => 0,
+    }
 }
 
 /// Whether a line, without its LF, is one that the server answers by itself.

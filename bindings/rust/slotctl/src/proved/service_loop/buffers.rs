@@ -1,4 +1,4 @@
-// Erased by bindings/rust/erase from crates/service_loop/src/buffers.rt, sha256 8cf34af4da51df7e5cf0d23f87fb5d21406504b58ca0051e3aacbee5ee092455.
+// Erased by bindings/rust/erase from crates/service_loop/src/buffers.rt, sha256 b907fe4855778d806b8c905aa82241e642650f9ae2e1573691d5615422bd4259.
 //! A connection without its stream.
 
 use crate::kit::alloc::Allocator;
@@ -7,7 +7,9 @@ use crate::kit::Vec;
 use crate::proved::model_asked::kind::WorldKind;
 use crate::proved::model_steps::refusal::NoMemory;
 use crate::proved::model_steps::view::View;
-use crate::proved::service_loop::asking::{before_query, first_query, first_taking, is_prefix_of};
+use crate::proved::service_loop::asking::{
+    before_query, first_query, first_taking, first_wait, is_prefix_of,
+};
 use crate::proved::service_loop::terms::Query;
 use crate::proved::text_lines::replies::Replies;
 use crate::proved::text_player::as_replies::AsReplies;
@@ -141,6 +143,11 @@ impl<A: Allocator> Buffers<A> {
             return None;
         }
         first_taking(&self.inbox)
+    }
+
+    /// For how many seconds the line that waits first waits for a number; 0 where it takes none, or waits for none.
+    pub fn wait(&self) -> u64 {
+        first_wait(&self.inbox)
     }
 
     /// The line that waits first, of so many bytes with its LF, was answered by what these replies are: they wait to be sent. Where memory is

@@ -1,4 +1,4 @@
-// Erased by bindings/rust/erase from crates/service_loop/src/connection.rt, sha256 1c13a372c8bb1996dfff8345b0e2b3c4d8a37bc5b9a32b175bef859385c1779a.
+// Erased by bindings/rust/erase from crates/service_loop/src/connection.rt, sha256 218be287f0b7bc9c3cfef7625f0ebf9cdd8c5731594c9b47fd4801d4dcea96a3.
 //! A connection: its stream, and what is held of it.
 
 use crate::kit::alloc::Allocator;
@@ -11,7 +11,8 @@ use crate::proved::service_loop::peek::{Limits, Peek};
 use crate::proved::service_loop::persist::Persist;
 use crate::proved::service_loop::shared::{SharedBuffers, READ_ROOM};
 use crate::proved::service_loop::stream::Stream;
-use crate::proved::service_loop::taking::say_taking;
+use crate::proved::service_loop::take_line::TakeLine;
+use crate::proved::service_loop::taking::{is_crowded, say_taking};
 use crate::proved::service_loop::terms::{put_answer, Query, Terms};
 use crate::proved::text_lines::held::query::QUERY_MAX;
 use crate::proved::text_lines::print::print_reply;
@@ -89,6 +90,11 @@ impl<S: Stream, A: Allocator> Connection<S, A> {
     /// Whether it is at its end: at fault, or all that came is taken and all replies are sent.
     pub fn is_done(&self) -> bool {
         self.buffers.is_broken() || (self.buffers.is_ended() && self.buffers.unsent().is_empty())
+    }
+
+    /// Whether it has something to send, and its stream takes it now.
+    pub fn can_send(&self) -> bool {
+        self.writable && !self.buffers.unsent().is_empty() && !self.buffers.is_broken()
     }
 
     /// Whether a turn more would have something to do, with nothing new told of its stream.
@@ -361,6 +367,14 @@ impl<S: Stream, A: Allocator> Connection<S, A> {
         }
     }
 
+    /// For whom it takes a number, where the line that waits first takes one and there is room for the answer, and for how many seconds it waits: for
+    /// none, where the end of what comes was told.
+    pub fn wish(&self) -> Option<TakeLine> {
+        let identity = self.taking()?;
+        let seconds = if self.hung { 0 } else { self.buffers.wait() };
+        Some(TakeLine { identity, seconds })
+    }
+
     /// Where it takes a number, the lines of that went to the persister, and what they are answered is not known: then it is at fault.
     pub fn give_up_taking(&mut self) {
         if self.taking().is_some() {
@@ -368,8 +382,8 @@ impl<S: Stream, A: Allocator> Connection<S, A> {
         }
     }
 
-    /// Takes a number, where the line that waits first is `take ID` and there is room for the answer: by events of the service, one after another, of
-    /// which the last reply is the answer (`say_taking`).
+    /// Takes a number, where the line that waits first takes one and there is room for the answer: by events of the service, one after another, of
+    /// which the last reply is the answer (`say_taking`). Where those who are called are patient, one that is refused since all are held waits on.
     pub fn take_number<R, D: Service<R>, B: Allocator>(
         &mut self,
         rt: &R,
@@ -384,6 +398,9 @@ impl<S: Stream, A: Allocator> Connection<S, A> {
         }
         if let Some((identity, count)) = self.buffers.taking() {
             let reply = say_taking(rt, service, &mut shared.view, identity, wide, ahead);
+            if shared.patient && is_crowded(&reply) {
+                return;
+            }
             print_reply(reply, &shared.view, &mut shared.replies);
             self.buffers.answer(count, &mut shared.replies);
         }

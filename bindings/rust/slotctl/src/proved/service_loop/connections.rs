@@ -1,4 +1,4 @@
-// Erased by bindings/rust/erase from crates/service_loop/src/connections.rt, sha256 04dc47051a8183d15f2e8e8c2b8565309fb9df8f520a4097c45bf8e67344568e.
+// Erased by bindings/rust/erase from crates/service_loop/src/connections.rt, sha256 f6841fa022dffd25a44ed857f26a8b9163797366a7115e8593fcb7bdee0d048e.
 //! The connections of a server, their seats, and who is to have a turn.
 
 use crate::kit::alloc::{AllocError, Global};
@@ -15,6 +15,7 @@ use crate::proved::service_loop::failing::fail_keepers;
 use crate::proved::service_loop::persist::Persist;
 use crate::proved::service_loop::seat_numbers::SeatNumbers;
 use crate::proved::service_loop::socket::Socket;
+use crate::proved::service_loop::take_queue::TakeQueue;
 use crate::proved::service_loop::turns::number_at;
 use std::mem;
 
@@ -228,8 +229,9 @@ impl ConnectionTable {
         Ok(())
     }
 
-    // After its turn a connection leaves, or is due again, or waits for the system.
-    fn settle_one(&mut self, key: usize, tick: u64) -> Result<(), AllocError> {
+    // After its turn a connection leaves, or is due again, or waits for the system; one that waits for a number is due only if it can send.
+    fn settle_one(&mut self, key: usize, tick: u64, queue: &TakeQueue) -> Result<(), AllocError> {
+        let waits = queue.has(number_at(self.numbers.all(), key));
         let Some(connection) = self.seated(key) else {
             return Ok(());
         };
@@ -242,7 +244,7 @@ impl ConnectionTable {
         } else if connection.buffers.unsent().is_empty() {
             connection.stream.end();
         }
-        if connection.goes_on() {
+        if connection.goes_on() && (!waits || connection.can_send()) {
             connection.stage = ConnectionStage::Queued;
             self.later.push(key)?;
         }
@@ -294,18 +296,45 @@ impl ConnectionTable {
         fail_keepers(&mut self.seats, self.numbers.all(), stays, &mut self.ready)
     }
 
-    /// After a turn in which the first `called` ready seats were called: those that have more to do are due again, behind the others.
+    // A connection that was called to take a number is due again, whether it took one or not.
+    fn wake(&mut self, key: usize) -> Result<(), AllocError> {
+        let Some(connection) = self.seated(key) else {
+            return Ok(());
+        };
+        if connection.stage == ConnectionStage::Idle {
+            connection.stage = ConnectionStage::Queued;
+            self.later.push(key)?;
+        }
+        Ok(())
+    }
+
+    // The same, of all that were.
+    fn wake_all(&mut self, called: &[usize]) -> Result<(), AllocError> {
+        for key in called {
+            self.wake(*key)?;
+        }
+        Ok(())
+    }
+
+    /// After a turn in which the first `called` ready seats were called: those that have more to do are due again, behind the others, and those that
+    /// were called to take numbers.
     ///
     /// # Errors
     ///
     /// `AllocError`: the list of connections that are due could not grow.
-    pub fn settle(&mut self, called: usize, tick: u64) -> Result<(), AllocError> {
+    pub fn settle(
+        &mut self,
+        called: usize,
+        tick: u64,
+        queue: &TakeQueue,
+    ) -> Result<(), AllocError> {
         for at in 0..called {
             if at < self.ready.len() {
                 let key = self.ready[at];
-                self.settle_one(key, tick)?;
+                self.settle_one(key, tick, queue)?;
             }
         }
+        self.wake_all(queue.called())?;
         let from = called.min(self.ready.len());
         self.queue_again(from)
     }
@@ -318,7 +347,7 @@ impl ConnectionTable {
         Ok(())
     }
 
-    /// Closes each connection of which nothing came or went for `idle` ticks, or for ten if it is at its end.
+    /// Closes each connection of which nothing came or went for `idle` ticks, or for ten if it is at its end, but none that waits for a number.
     ///
     /// # Errors
     ///
@@ -327,10 +356,11 @@ impl ConnectionTable {
         &mut self,
         tick: u64,
         idle: Option<u64>,
+        queue: &TakeQueue,
         audit: &mut Audit,
     ) -> Result<(), AllocError> {
         for key in 0..self.seats.len() {
-            self.sweep_one(key, tick, idle, audit)?;
+            self.sweep_one(key, tick, idle, queue, audit)?;
         }
         Ok(())
     }
@@ -341,9 +371,13 @@ impl ConnectionTable {
         key: usize,
         tick: u64,
         idle: Option<u64>,
+        queue: &TakeQueue,
         audit: &mut Audit,
     ) -> Result<(), AllocError> {
         if !is_swept_at(&self.seats, key, tick, idle) {
+            return Ok(());
+        }
+        if queue.has(number_at(self.numbers.all(), key)) {
             return Ok(());
         }
         if !is_leaving_at(&self.seats, key) {

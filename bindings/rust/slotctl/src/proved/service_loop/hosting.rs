@@ -1,4 +1,4 @@
-// Erased by bindings/rust/erase from crates/service_loop/src/hosting.rt, sha256 b84e185a1ee84651be5ba8833c98f3a86779e513a2fa49968f464be985406633.
+// Erased by bindings/rust/erase from crates/service_loop/src/hosting.rt, sha256 924d33e9bd4911d20825616b7f6ab07dc38aa519505f1aca811dc16f11abb7b0.
 //! A server in one thread, by the readiness of its sockets.
 
 use crate::kit::alloc::{AllocError, Global};
@@ -19,7 +19,6 @@ use crate::proved::service_loop::answering::answer_queries;
 use crate::proved::service_loop::attended::Attended;
 use crate::proved::service_loop::audit::Audit;
 use crate::proved::service_loop::audit_log::AuditLog;
-use crate::proved::service_loop::connection::Connection;
 use crate::proved::service_loop::connections::ConnectionTable;
 use crate::proved::service_loop::doors::{Accepted, Doors};
 use crate::proved::service_loop::gathering::{iterate_prefetched, Batch, Called};
@@ -27,7 +26,7 @@ use crate::proved::service_loop::host_fault::HostFault;
 use crate::proved::service_loop::persist::{Persist, Tally};
 use crate::proved::service_loop::releasing::end_due;
 use crate::proved::service_loop::shared::SharedBuffers;
-use crate::proved::service_loop::socket::Socket;
+use crate::proved::service_loop::take_queue::TakeQueue;
 use crate::proved::service_loop::taking::{prefetch_takings, serve_takings};
 use crate::proved::service_loop::teller::Teller;
 use crate::proved::service_loop::terms::Terms;
@@ -96,6 +95,8 @@ struct Hosting {
     events: Events<Global>,
     doors: Doors,
     connections: ConnectionTable,
+    /// Those who wait for numbers.
+    queue: TakeQueue,
     start: Instant,
     /// The second since the start that is under way.
     second: u64,
@@ -261,6 +262,7 @@ impl Hosting {
             events,
             doors,
             connections: ConnectionTable::new(alloc, options.clients)?,
+            queue: TakeQueue::new(alloc),
             start,
             second: 0,
             tick: 0,
@@ -425,7 +427,7 @@ impl Hosting {
         if self.sweeps && !self.note_events(Duration::from_millis(0))? {
             self.sweeps = false;
             self.connections
-                .sweep(self.tick, self.options.idle, audit)?;
+                .sweep(self.tick, self.options.idle, &self.queue, audit)?;
         }
         Ok(())
     }
@@ -548,10 +550,14 @@ impl Hosting {
         let Called::Served(count) = called else {
             return Ok(());
         };
-        if !shared.waits {
+        if !shared.waits && self.queue.is_empty() {
             return Ok(());
         }
-        match self.take_numbers_of(rt, wide, service, persister, shared, count) {
+        shared.patient = self.call_takers(&service.service, persister, count)?;
+        if self.queue.called().is_empty() {
+            return Ok(());
+        }
+        match self.take_numbers_of(rt, wide, service, persister, shared) {
             Ok(taken) => {
                 self.note_lost(taken);
                 Ok(())
@@ -560,7 +566,25 @@ impl Hosting {
         }
     }
 
-    // Takes numbers for those of the first of the seats that are ready who say `take`, where any do.
+    // Chooses who takes a number now, of those who wait and of those of the first of the seats that are ready. Says whether they wait on where they are
+    // refused.
+    fn call_takers<D, K: Persist<D>>(
+        &mut self,
+        service: &D,
+        persister: &K,
+        count: usize,
+    ) -> Result<bool, AllocError> {
+        let few = count.min(self.connections.ready.len());
+        let seats = &self.connections.seats;
+        let numbers = self.connections.numbers.all();
+        self.queue.let_go(seats, numbers);
+        let ready = &self.connections.ready[..few];
+        self.queue
+            .note(service, persister, seats, numbers, ready, self.tick)?;
+        self.queue.call(persister.room(service), self.tick)
+    }
+
+    // Takes numbers for those who are called.
     fn take_numbers_of<R, D: Service<R>, K: Persist<D>>(
         &mut self,
         rt: &R,
@@ -568,28 +592,19 @@ impl Hosting {
         service: &mut Attended<D>,
         persister: &mut K,
         shared: &mut SharedBuffers<Global>,
-        count: usize,
     ) -> Result<Called, K::Fault> {
-        let ConnectionTable {
-            seats,
-            numbers,
-            ready,
-            ..
-        } = &mut self.connections;
-        let first = &ready[..count.min(ready.len())];
+        let ConnectionTable { seats, numbers, .. } = &mut self.connections;
         let numbers = numbers.all();
-        if !any_takes(seats, first) {
-            return Ok(Called::Served(count));
-        }
+        let called = self.queue.called();
         match &mut self.batch {
             None => {
                 serve_takings(
-                    rt, service, persister, shared, seats, numbers, first, wide, false,
+                    rt, service, persister, shared, seats, numbers, called, wide, false,
                 )?;
-                Ok(Called::Served(count))
+                Ok(Called::Served(called.len()))
             }
             Some(batch) => prefetch_takings(
-                rt, service, persister, batch, shared, seats, numbers, first, wide,
+                rt, service, persister, batch, shared, seats, numbers, called, wide,
             ),
         }
     }
@@ -616,7 +631,8 @@ impl Hosting {
     // After the turn of so many: where one has left, another may be accepted again.
     fn settle<F>(&mut self, called: usize) -> Result<(), HostFault<F>> {
         let before = self.connections.open;
-        self.connections.settle(called, self.tick)?;
+        self.connections.settle(called, self.tick, &self.queue)?;
+        self.queue.clear_called();
         self.full = self.full && before <= self.connections.open;
         Ok(())
     }
@@ -850,20 +866,6 @@ impl Hosting {
         put_line(format!(in self.alloc; "served {served}\n"), output)?;
         Ok(Hosted { served })
     }
-}
-
-// Whether the connection of any of these seats takes a number.
-fn any_takes(seats: &[Option<Connection<Socket, Global>>], called: &[usize]) -> bool {
-    for key in called {
-        if *key < seats.len() {
-            if let Some(connection) = &seats[*key] {
-                if connection.taking().is_some() {
-                    return true;
-                }
-            }
-        }
-    }
-    false
 }
 
 // Writes a line, where there was memory for it.

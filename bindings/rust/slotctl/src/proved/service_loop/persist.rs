@@ -1,4 +1,4 @@
-// Erased by bindings/rust/erase from crates/service_loop/src/persist.rt, sha256 7957b621a1e408fbd36f79b8781dd13a3da7fb3d9fec7ea7eb76126fe585926d.
+// Erased by bindings/rust/erase from crates/service_loop/src/persist.rt, sha256 c3ed0347aa3792a831d30015d6d4d1180917e4fe89139c39d49460e7343c6014.
 //! What is kept of a turn before its replies go out.
 
 use crate::kit::alloc::Allocator;
@@ -68,6 +68,9 @@ pub trait Persist<D>: Sized {
 
     /// Appends who holds numbers, as it is asked.
     fn put_held<B: Allocator>(&self, service: &D, query: HeldQuery, out: &mut Replies<B>);
+
+    /// How many more may hold a number: those that nobody holds, but one for each who competes and holds none yet.
+    fn room(&self, service: &D) -> u64;
 
     /// Whether so much is to be kept before any other connection has its turn. It is not asked where `most_prefetched` is some:
     /// then each connection has its turn whose lines are in the batch.

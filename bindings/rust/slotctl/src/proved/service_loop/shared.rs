@@ -1,4 +1,4 @@
-// Erased by bindings/rust/erase from crates/service_loop/src/shared.rt, sha256 5e13e0a7a9b18a51e0d3b1400752904565e36e094eda4dd2e6ed71b0322eba00.
+// Erased by bindings/rust/erase from crates/service_loop/src/shared.rt, sha256 d03a467daf907c9afe14b362aa781a6af9d026c82b65321f087dde84eb1f30de.
 //! What the connections of a loop share.
 
 use crate::kit::alloc::Allocator;
@@ -23,6 +23,8 @@ pub struct SharedBuffers<A: Allocator> {
     pub share: usize,
     /// Whether a connection that had its turn since `share_among` left something to wait, as a line that asks who holds numbers or takes one.
     pub waits: bool,
+    /// Whether those who take numbers wait on where all are held.
+    pub patient: bool,
 }
 
 impl<A: Allocator + Clone> SharedBuffers<A> {
@@ -45,6 +47,7 @@ impl<A: Allocator + Clone> SharedBuffers<A> {
             replies,
             share: READ_ROOM,
             waits: false,
+            patient: false,
         })
     }
 }

@@ -1,4 +1,4 @@
-// Erased by bindings/rust/erase from crates/service_loop/src/taking.rt, sha256 68e2a65cdcd1a7d5f5879bd711649e92eb5473fe985a5e8bc13462fc9ced7b7f.
+// Erased by bindings/rust/erase from crates/service_loop/src/taking.rt, sha256 62201bfc96ce361dac82671ceea2dc152c6497bb26fd0468aa194f3eb72a7f2e.
 //! Lines that take a number, after a turn of the loop: `take ID` is `enter ID`, and then in the wide world one `seek ID`, elsewhere `probe ID` as often
 //! as it takes.
 
@@ -6,6 +6,7 @@ use crate::kit::alloc::{AllocError, Allocator};
 use crate::kit::Vec;
 use crate::proved::model_asked::event::Event;
 use crate::proved::model_asked::reply::Reply;
+use crate::proved::model_steps::refusal::Refusal;
 use crate::proved::model_steps::view::View;
 use crate::proved::service_loop::attended::Attended;
 use crate::proved::service_loop::audit::Asker;
@@ -30,6 +31,11 @@ const LINE_ROOM: usize = 27;
 // Whether a number is searched for behind this reply: `enter` was accepted, or a `probe` missed.
 fn wants_search(reply: &Reply<()>) -> bool {
     matches!(reply, Reply::Ok | Reply::Missed)
+}
+
+/// Whether this refuses a number since as many compete as may.
+pub(crate) fn is_crowded(reply: &Reply<()>) -> bool {
+    matches!(reply, Reply::Refused(Refusal::Crowded))
 }
 
 // What `take` of an identity said, and how often it searched for a number.

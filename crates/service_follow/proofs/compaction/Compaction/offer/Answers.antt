@@ -4,35 +4,8 @@ use Rattle.service_follow.specs.Tellings.{IsTold}
 use Rattle.service_follow.proofs.Moves.{told_one}
 use Rattle.service_follow.proofs.compaction.Compaction.offer.Goals as goal
 
-pub returns-in-Ok-Answered : goal.returns-in-Ok-Answered
-returns-in-Ok-Answered g c =
-    let now = c.args.self.now in
-    let log = c.args.log.now in
-    record {
-      told = told_one g.S.Store.stands now.due now.token log c.offer.new.self c.deref.result.now c.offer.ensures.moved c.offer.ensures.placed (search rules)
-          (subst (IsTold now.due now.token log.stays.machine) (sym c.deref.ensures.value) c.requires);
-    }
-
-pub returns-in-Ok : goal.returns-in-Ok
-returns-in-Ok g c =
-    let now = c.args.self.now in
-    let log = c.args.log.now in
-    record {
-      told = told_one g.S.Store.stands now.due now.token log c.offer.new.self c.deref.result.now c.offer.ensures.moved c.offer.ensures.placed (search rules)
-          (subst (IsTold now.due now.token log.stays.machine) (sym c.deref.ensures.value) c.requires);
-    }
-
-pub returns-in-Some : goal.returns-in-Some
-returns-in-Some g c =
-    let now = c.args.self.now in
-    let log = c.args.log.now in
-    record {
-      told = told_one g.S.Store.stands now.due now.token log c.offer.new.self c.deref.result.now c.offer.ensures.moved c.offer.ensures.placed (search rules)
-          (subst (IsTold now.due now.token log.stays.machine) (sym c.deref.ensures.value) c.requires);
-    }
-
-pub returns-in-None : goal.returns-in-None
-returns-in-None g c =
+pub returns : goal.returns
+returns g c =
     let now = c.args.self.now in
     let log = c.args.log.now in
     record {

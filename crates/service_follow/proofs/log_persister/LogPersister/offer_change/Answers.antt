@@ -6,22 +6,8 @@ use Rattle.service_follow.specs.declared.hall_terms.ToldTerms.{ToldTerms}
 use Rattle.service_follow.proofs.Moves.{changed_one, is_change}
 use Rattle.service_follow.proofs.log_persister.LogPersister.offer_change.Goals as goal
 
-pub returns-in_default-offer : goal.returns-in_default-offer
-returns-in_default-offer g c =
-    let now = c.args.self.now in
-    let told : ToldTerms = record { terms = now.terms; was = c.terms_before.result } in
-    let text : c.deref.result.now ≡ change_entry now.token (next_count now.count) told = c.deref.ensures.value ∙ c.in-Ok.ensures in
-    changed_one g.S.Store.stands now.token now.terms now.log c.offer.new.self _ c.deref.result.now c.offer.ensures.moved c.offer.ensures.adds (is_change now.token c.deref.result.now (next_count now.count) told text)
-
-pub returns-in-Some : goal.returns-in-Some
-returns-in-Some g c =
-    let now = c.args.self.now in
-    let told : ToldTerms = record { terms = now.terms; was = c.terms_before.result } in
-    let text : c.deref.result.now ≡ change_entry now.token (next_count now.count) told = c.deref.ensures.value ∙ c.in-Ok.ensures in
-    changed_one g.S.Store.stands now.token now.terms now.log c.offer.new.self _ c.deref.result.now c.offer.ensures.moved c.offer.ensures.adds (is_change now.token c.deref.result.now (next_count now.count) told text)
-
-pub returns-in-None : goal.returns-in-None
-returns-in-None g c =
+pub returns : goal.returns
+returns g c =
     let now = c.args.self.now in
     let told : ToldTerms = record { terms = now.terms; was = c.terms_before.result } in
     let text : c.deref.result.now ≡ change_entry now.token (next_count now.count) told = c.deref.ensures.value ∙ c.in-Ok.ensures in

@@ -10,13 +10,6 @@ returns-in_err-offer_change g c =
     let read = changed_same g.S.Store.stands now.token now.token now.terms now.terms now.log c.read.new.self c.read.ensures.moved c.read.ensures.same refl refl in
     changed_then g.S.Store.stands now.token now.token then.token now.terms now.terms then.terms now.log c.read.new.self then.log read c.offer_change.ensures
 
-pub returns-then-tells_own-2 : goal.returns-then-tells_own-2
-returns-then-tells_own-2 g c =
-    let now = c.args.self.now in
-    let then = c.offer_change.new.self in
-    let read = changed_same g.S.Store.stands now.token now.token now.terms now.terms now.log c.read.new.self c.read.ensures.moved c.read.ensures.same refl refl in
-    changed_then g.S.Store.stands now.token now.token then.token now.terms now.terms then.terms now.log c.read.new.self then.log read c.offer_change.ensures
-
 pub returns : goal.returns
 returns g c =
     let now = c.args.self.now in

@@ -1,0 +1,222 @@
+//! Those who wait for numbers, in the order in which they came.
+
+ghost use Rattle.std.specs.Prelude.{◌≡◌, ◌++◌, List, [], filter, get_or, None, OnOk, IfOk};
+ghost use Rattle.service_loop.specs.TakeQueue.{called_of, is_late, is_patient, seats_of_all, waits_for, waits_on, wish_of};
+
+use crate::connection::Connection;
+use crate::persist::Persist;
+use crate::stream::Stream;
+use crate::take_line::TakeLine;
+use crate::turns::number_at;
+use std::alloc::{AllocError, Allocator, Global};
+
+/// The most of those who wait that are called at once: what they say has room in one batch.
+const MOST_CALLED: u64 = 32;
+
+/// One who waits.
+#[derive(Clone, Copy, Debug, Drop, PartialEq, Eq)]
+pub struct Waiter {
+    /// Where it sits.
+    pub key: usize,
+    /// The number of its connection.
+    pub number: u64,
+    /// For whom it takes a number.
+    pub identity: u64,
+    /// From which tick on it waits no longer.
+    pub until: u64,
+}
+
+/// Those who wait for numbers, in the order in which they came, and who is called in a round.
+#[derive(Drop)]
+pub struct TakeQueue {
+    waiters: Vec<Waiter>,
+    /// The seats of those who ask in this round, and do not wait.
+    asking: Vec<usize>,
+    /// The seats of those who are called in this round.
+    called: Vec<usize>,
+}
+
+// For whom whoever sits there takes a number, and for how long it waits for one.
+fn wish_at<S: Stream, A: Allocator>(
+    seats: &[Option<Connection<S, A>>],
+    key: usize,
+) -> Option<TakeLine>
+    ensures { result ≡ wish_of (get_or seats.now key None) }
+{
+    if key < seats.len() {
+        if let Some(connection) = &seats[key] {
+            return connection.wish();
+        }
+    }
+    None
+}
+
+// Whether a number is waited for by this identity.
+fn waits_for(identity: u64, wish: Option<TakeLine>) -> bool
+    ensures { result ≡ waits_for identity wish }
+{
+    match wish {
+        Some(wish) => wish.identity == identity && 0 < wish.seconds,
+        None => false,
+    }
+}
+
+// Whether one still waits where it sat.
+fn waits_on<S: Stream, A: Allocator>(
+    seats: &[Option<Connection<S, A>>],
+    numbers: &[u64],
+    waiter: &Waiter,
+) -> bool
+    ensures { result ≡ waits_on numbers.now seats.now waiter.now }
+{
+    number_at(numbers, waiter.key) == waiter.number
+        && waits_for(waiter.identity, wish_at(seats, waiter.key))
+}
+
+// Adds the seats of these to a list.
+fn add_seats(waiters: &[Waiter], called: &mut Vec<usize>) -> Result<(), AllocError>
+    ensures { OnOk result (called.new.items ≡ called.old.items ++ seats_of_all waiters.now) }
+{
+    for waiter in waiters {
+        called.push(waiter.key)?;
+    }
+    Ok(())
+}
+
+// Adds the seats of those of these to a list who wait no longer.
+fn add_late(waiters: &[Waiter], tick: u64, called: &mut Vec<usize>) -> Result<(), AllocError>
+    ensures { OnOk result (called.new.items ≡ called.old.items ++ seats_of_all (filter (is_late tick) waiters.now)) }
+{
+    for waiter in waiters {
+        if waiter.until <= tick {
+            called.push(waiter.key)?;
+        }
+    }
+    Ok(())
+}
+
+impl TakeQueue {
+    /// Nobody waits.
+    pub fn new(alloc: Global) -> TakeQueue
+        ensures { (result.waiters.items ≡ []) × (result.called.items ≡ []) }
+    {
+        TakeQueue {
+            waiters: Vec::new(alloc),
+            asking: Vec::new(alloc),
+            called: Vec::new(alloc),
+        }
+    }
+
+    /// Whether nobody waits.
+    pub fn is_empty(&self) -> bool {
+        self.waiters.is_empty()
+    }
+
+    /// Whether the connection of this number waits.
+    pub fn has(&self, number: u64) -> bool {
+        self.waiters.iter().any(|waiter| waiter.number == number)
+    }
+
+    /// The seats of those who are called.
+    pub fn called(&self) -> &[usize]
+        ensures { result.now ≡ self.now.called.items }
+    {
+        &self.called
+    }
+
+    /// A round is over: nobody is called.
+    pub fn clear_called(&mut self)
+        ensures { (self.new.waiters ≡ self.old.waiters) × (self.new.called.items ≡ []) }
+    {
+        self.called.clear();
+    }
+
+    /// Lets go those who wait no more where they sat: they were answered, their connections ended, or there is no room for an answer. The others keep their
+    /// order.
+    pub fn let_go<S: Stream, A: Allocator>(
+        &mut self,
+        seats: &[Option<Connection<S, A>>],
+        numbers: &[u64],
+    )
+        ensures kept { self.new.waiters.items ≡ filter (waits_on numbers.now seats.now) self.old.waiters.items }
+        ensures called { self.new.called ≡ self.old.called }
+    {
+        self.waiters
+            .retain(|waiter| waits_on(seats, numbers, waiter));
+    }
+
+    // Notes who takes a number at a seat. Who waits joins behind all others, if it is not there yet. Who competes already is refused at once.
+    fn note_at<D, K: Persist<D>, S: Stream, A: Allocator>(
+        &mut self,
+        service: &D,
+        persister: &K,
+        seats: &[Option<Connection<S, A>>],
+        number: u64,
+        key: usize,
+        tick: u64,
+    ) -> Result<(), AllocError>
+        ensures { OnOk result ((more : List Waiter) × (self.new.waiters.items ≡ self.old.waiters.items ++ more)) }
+    {
+        let Some(wish) = wish_at(seats, key) else {
+            return Ok(());
+        };
+        if wish.seconds == 0 || wish.identity == 0 || persister.has_stay(service, wish.identity) {
+            self.asking.push(key)?;
+        } else if !self.has(number) {
+            self.waiters.push(Waiter {
+                key,
+                number,
+                identity: wish.identity,
+                until: tick.saturating_add(wish.seconds),
+            })?;
+        }
+        Ok(())
+    }
+
+    /// Notes who takes a number at these seats. Those who wait join behind all others, each once. Nobody waits whose identity is 0 or competes already.
+    ///
+    /// # Errors
+    ///
+    /// `AllocError`: an allocation failed.
+    pub fn note<D, K: Persist<D>, S: Stream, A: Allocator>(
+        &mut self,
+        service: &D,
+        persister: &K,
+        seats: &[Option<Connection<S, A>>],
+        numbers: &[u64],
+        ready: &[usize],
+        tick: u64,
+    ) -> Result<(), AllocError>
+        ensures { OnOk result ((more : List Waiter) × (self.new.waiters.items ≡ self.old.waiters.items ++ more)) }
+    {
+        for key in ready {
+            let number = number_at(numbers, *key);
+            self.note_at(service, persister, seats, number, *key, tick)?;
+        }
+        Ok(())
+    }
+
+    /// Chooses who is called, where so many more may hold a number: the first of those who wait, and nobody else. Where nobody waits or none may, those
+    /// are called who ask and do not wait, and those who wait no longer. Says whether those who are called wait on where they are refused.
+    ///
+    /// # Errors
+    ///
+    /// `AllocError`: an allocation failed.
+    pub fn call(&mut self, room: u64, tick: u64) -> Result<bool, AllocError>
+        ensures called { OnOk result (self.new.called.items ≡ called_of room tick self.old.waiters.items self.old.asking.items) }
+        ensures waiters { self.new.waiters ≡ self.old.waiters }
+        ensures patient { IfOk result (λ patient. patient ≡ is_patient room self.old.waiters.items) }
+    {
+        self.called.clear();
+        let patient = 0 < room && !self.waiters.is_empty();
+        if patient {
+            let few = (room.min(MOST_CALLED) as usize).min(self.waiters.len());
+            add_seats(&self.waiters[..few], &mut self.called)?;
+        } else {
+            add_late(&self.waiters, tick, &mut self.called)?;
+            self.called.extend_from_slice(&self.asking)?;
+        }
+        self.asking.clear();
+        Ok(patient)
+    }
+}
