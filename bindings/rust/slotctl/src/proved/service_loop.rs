@@ -1,4 +1,4 @@
-// Erased by bindings/rust/erase from crates/service_loop/src/lib.rt, sha256 b1505476835d1bf014094e1ec909ed968d964c93494ea918a15f26fac11b37f5.
+// Erased by bindings/rust/erase from crates/service_loop/src/lib.rt, sha256 db705e3e1df8c9f2202008aaf61779d081a61b7e5d328133adbc416e737aa3a1.
 //! Connections that share one service, in one thread.
 //!
 //! `Buffers` are a connection without its stream: one side of a transcript (`Responder`), what came and is not taken yet, and what was said and is not

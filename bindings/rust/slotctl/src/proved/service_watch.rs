@@ -1,4 +1,4 @@
-// Erased by bindings/rust/erase from crates/service_watch/src/lib.rt, sha256 3ab9ed5deda51fba8ec9e16061f81535ee4d4690af6ee3b62f6f94b434fdbdaa.
+// Erased by bindings/rust/erase from crates/service_watch/src/lib.rt, sha256 9deadedc01d090516ec8b81c0fcf2c186529102b031b547a50d7bb4f15c6a893.
 //! What a server shows those who watch it: a page of metrics in the text form of Prometheus, version 0.0.4, over HTTP/1.1.
 //!
 //! `put_page` writes the page of `Numbers`, `asked_by` says what a request asks for, and `put_answer` writes what is answered. `Scrapers` are those
@@ -14,8 +14,9 @@
 //!     clients: loops.clients,
 //!     accepted: loops.accepted,
 //!     ..
-//!     log_place: tally.log_place,
-//!     log_since_compaction: tally.log_since_compaction,
+//!     tally: *tally,
+//!     log_age: age_of(tally.log_place, loops.ticks, self.placed),
+//! }
 //! ```
 
 pub mod answer;

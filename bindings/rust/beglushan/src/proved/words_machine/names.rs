@@ -1,8 +1,8 @@
-// Erased by bindings/rust/erase from crates/words_machine/src/names.rt, sha256 420e97839254e8e059d6877a00737a66f05e83ec12a25034e9a5909c988246c7.
+// Erased by bindings/rust/erase from crates/words_machine/src/names.rt, sha256 c511606d3a97fff4c58c3015d379b91e95340869d1ba06ec87b085d2a63d5c5d.
 //! Recursive renaming as a program over words.
 
 use crate::proved::model_recursion::namer::{Cell, Namer};
-use crate::proved::model_steps::access::{Access, Answer};
+use crate::proved::model_steps::access::Answer;
 use crate::proved::model_steps::note::Note;
 use crate::proved::model_steps::program::StepProgram;
 use crate::proved::words_machine::program::WordProgram;
@@ -23,8 +23,6 @@ impl WordProgram for Namer {
 
     type Output = u16;
 
-    type End = Namer;
-
     fn registers(most: u64) -> usize {
         (most * most * most) as usize
     }
@@ -38,11 +36,7 @@ impl WordProgram for Namer {
 
     #[inline(always)]
     fn access(&self) -> WordAccess<Cell> {
-        match self.next() {
-            Access::Read(r) => WordAccess::Load(r),
-            Access::Write(r, word) => WordAccess::Store(r, word),
-            Access::Nothing => WordAccess::Nothing,
-        }
+        WordAccess::of(self.next())
     }
 
     #[inline(always)]
@@ -53,10 +47,6 @@ impl WordProgram for Namer {
     #[inline(always)]
     fn take_done(&mut self) -> Note<u16> {
         self.resume(Answer::Done)
-    }
-
-    fn end(&self) -> Namer {
-        *self
     }
 
     fn start(most: u64, seat: u64, identity: u64) -> Self {

@@ -1,4 +1,4 @@
-// Erased by bindings/rust/erase from crates/words_machine/src/program.rt, sha256 02467e85d1ca2ff5ba9d97cfb4ec6285041785f9a4499a1adfcacbcccc042b77.
+// Erased by bindings/rust/erase from crates/words_machine/src/program.rt, sha256 bbcbd5658827dd4718e540bad0a2b8c42c92330e3ddcf2c5fcffd5ecb0a269e6.
 //! Programs whose registers are words.
 
 use crate::proved::model_steps::note::Note;
@@ -15,9 +15,6 @@ pub trait WordProgram: Sized {
     /// What the program ends with.
     type Output;
 
-    /// What is kept of a program that has ended.
-    type End: Copy;
-
     /// Returns how many registers there are for so many participants.
     fn registers(most: u64) -> usize;
 
@@ -32,9 +29,6 @@ pub trait WordProgram: Sized {
 
     /// Takes that its word is stored.
     fn take_done(&mut self) -> Note<Self::Output>;
-
-    /// Returns what is kept of a program that has ended.
-    fn end(&self) -> Self::End;
 
     /// Returns the program of a seat, from 1 on, that begins with an identity.
     fn start(most: u64, seat: u64, identity: u64) -> Self;

@@ -1,4 +1,4 @@
-// Erased by bindings/rust/erase from crates/words_machine/src/seats.rt, sha256 b0ec37d874e3254cff3ee0ae3f613ad702a6aae100ec41f57f1cf8bb8a87dc94.
+// Erased by bindings/rust/erase from crates/words_machine/src/seats.rt, sha256 cf69398ac5ce4d54594a979970f0a89e2337157e0552e4f575797506f1fe07ea.
 //! The seats: before they are dealt, before and after their participants' runs, and what they can show of how these ended.
 
 use crate::kit::atomic_table::{Badge, Seat};
@@ -24,20 +24,20 @@ pub struct FreshSeat<P: WordProgram> {
     pub(crate) seat: Seat<u8, SeatView<P, P::Output>>,
 }
 
-/// A seat whose participant has ended: what is kept of its program, and what it has ended with.
+/// A seat whose participant has ended: at which program, and with what.
 pub struct EnteredSeat<P: WordProgram> {
     pub(crate) _number: u64,
     pub(crate) _identity: u64,
-    pub(crate) end: P::End,
+    pub(crate) program: P,
     pub(crate) outcome: P::Output,
     pub(crate) _accesses: u64,
     pub(crate) _badge: Badge<SeatView<P, P::Output>>,
 }
 
 impl<P: WordProgram> EnteredSeat<P> {
-    /// Returns what is kept of the program at which it has ended.
-    pub fn end(&self) -> P::End {
-        self.end
+    /// Returns the program at which it has ended.
+    pub fn end(&self) -> &P {
+        &self.program
     }
 
     /// Returns what its program has ended with.

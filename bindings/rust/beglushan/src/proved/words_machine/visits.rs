@@ -1,9 +1,9 @@
-// Erased by bindings/rust/erase from crates/words_machine/src/visits.rt, sha256 bb3ff6b17b67101aa43b6a7640684e1aab6df514878bf49a6393f7e11402d632.
+// Erased by bindings/rust/erase from crates/words_machine/src/visits.rt, sha256 bd967e46299441b876cdae6e59842b400ddd6f9280b418849a035f8cf5d5cb80.
 //! A visit to a splitter as a program over two words.
 
 use crate::proved::model_splitter::visitor::Visitor;
 use crate::proved::model_splitter::way::Way;
-use crate::proved::model_steps::access::{Access, Answer};
+use crate::proved::model_steps::access::Answer;
 use crate::proved::model_steps::note::Note;
 use crate::proved::model_steps::program::StepProgram;
 use crate::proved::words_machine::program::WordProgram;
@@ -14,8 +14,6 @@ impl WordProgram for Visitor<usize> {
 
     type Output = Way;
 
-    type End = Visitor<usize>;
-
     fn registers(_most: u64) -> usize {
         2
     }
@@ -25,11 +23,7 @@ impl WordProgram for Visitor<usize> {
     }
 
     fn access(&self) -> WordAccess<usize> {
-        match self.next() {
-            Access::Read(r) => WordAccess::Load(r),
-            Access::Write(r, word) => WordAccess::Store(r, word),
-            Access::Nothing => WordAccess::Nothing,
-        }
+        WordAccess::of(self.next())
     }
 
     fn take_word(&mut self, word: u64) -> Note<Way> {
@@ -38,10 +32,6 @@ impl WordProgram for Visitor<usize> {
 
     fn take_done(&mut self) -> Note<Way> {
         self.resume(Answer::Done)
-    }
-
-    fn end(&self) -> Visitor<usize> {
-        *self
     }
 
     fn start(_most: u64, seat: u64, _identity: u64) -> Self {

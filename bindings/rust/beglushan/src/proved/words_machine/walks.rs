@@ -1,9 +1,9 @@
-// Erased by bindings/rust/erase from crates/words_machine/src/walks.rt, sha256 4c7782237147e74e542c605a39c1c31c3351d881c142bfba02e0facc3d076fb2.
+// Erased by bindings/rust/erase from crates/words_machine/src/walks.rt, sha256 0b89799401f2b76ae1cc80e848ffbd3686a5ec45aa81d3d245d61ffa0d4f90b3.
 //! A walk through a grid of splitters as a program over words, two for each door.
 
 use crate::proved::model_splitter::grid::door::Door;
 use crate::proved::model_splitter::grid::walker::Walker;
-use crate::proved::model_steps::access::{Access, Answer};
+use crate::proved::model_steps::access::Answer;
 use crate::proved::model_steps::note::Note;
 use crate::proved::model_steps::place::Place;
 use crate::proved::model_steps::program::StepProgram;
@@ -15,8 +15,6 @@ impl WordProgram for Walker {
 
     type Output = Place;
 
-    type End = Walker;
-
     fn registers(most: u64) -> usize {
         (most * (most + 1)) as usize
     }
@@ -26,11 +24,7 @@ impl WordProgram for Walker {
     }
 
     fn access(&self) -> WordAccess<usize> {
-        match self.next() {
-            Access::Read(r) => WordAccess::Load(r),
-            Access::Write(r, word) => WordAccess::Store(r, word),
-            Access::Nothing => WordAccess::Nothing,
-        }
+        WordAccess::of(self.next())
     }
 
     fn take_word(&mut self, word: u64) -> Note<Place> {
@@ -39,10 +33,6 @@ impl WordProgram for Walker {
 
     fn take_done(&mut self) -> Note<Place> {
         self.resume(Answer::Done)
-    }
-
-    fn end(&self) -> Walker {
-        *self
     }
 
     fn start(_most: u64, seat: u64, _identity: u64) -> Self {

@@ -1,4 +1,4 @@
-// Erased by bindings/rust/erase from crates/model_pool/src/pool.rt, sha256 870c88469fb9b8b129481f9c54cb067482c3cae7760ecaa96c8ab3d8beef5523.
+// Erased by bindings/rust/erase from crates/model_pool/src/pool.rt, sha256 3bbc46421a52d70da45d2d11ec09281c94c7adaf3594e3a200ff8bf9c9c26917.
 //! The pool.
 
 use crate::kit::alloc::Allocator;
@@ -159,10 +159,15 @@ impl<A: Allocator> Pool<A> {
 
     /// Returns the error that `probe` would return, or `None` if it would succeed.
     pub fn probe_refusal(&self, id: u64) -> Option<Refusal> {
+        self.next_probe(id).err()
+    }
+
+    /// Returns the number of the bit that competitor `id`, which holds no number, probes next.
+    fn next_probe(&self, id: u64) -> Result<u32, Refusal> {
         match self.stay_of(id) {
-            None => Some(Refusal::NotCompeting),
-            Some(Stay::Seeking(_)) => None,
-            Some(Stay::Settled(_)) => Some(Refusal::Holding),
+            None => Err(Refusal::NotCompeting),
+            Some(Stay::Seeking(next)) => Ok(next),
+            Some(Stay::Settled(_)) => Err(Refusal::Holding),
         }
     }
 
@@ -181,12 +186,8 @@ impl<A: Allocator> Pool<A> {
     ///
     /// At most one access. A competitor has a number after at most `max(1, k - 1)` probes in a pool of size `k`.
     pub fn probe(&mut self, id: u64) -> Result<Probe, Refusal> {
-        let Some(stay) = self.competitors.stay_of(id) else {
-            return Err(Refusal::NotCompeting);
-        };
-        if let Stay::Settled(_) = stay {
-            return Err(Refusal::Holding);
-        }
+        let next = self.next_probe(id)?;
+        let stay = Stay::Seeking(next);
         let got = self.bits.access(stay.probe_access(self.size)).unwrap();
         let stay = stay.probed(self.size, got);
         self.competitors.put(id, stay);
@@ -204,14 +205,9 @@ impl<A: Allocator> Pool<A> {
     /// Those of the probes that it stands for, each of one access: at most `max(1, k - 1)` in a pool of size `k`. The identity is
     /// searched once, and bits that are known to be set are passed over.
     pub fn seek(&mut self, id: u64) -> Result<u32, Refusal> {
-        let Some(stay) = self.competitors.stay_of(id) else {
-            return Err(Refusal::NotCompeting);
-        };
-        let Stay::Seeking(next) = stay else {
-            return Err(Refusal::Holding);
-        };
-        let number = seek(&mut self.bits, self.size, next, next.max(self.low));
-        self.low = low_after(self.low, next, number);
+        let first = self.next_probe(id)?;
+        let number = seek(&mut self.bits, self.size, first, first.max(self.low));
+        self.low = low_after(self.low, first, number);
         self.competitors.put(id, Stay::Settled(number));
         Ok(number)
     }

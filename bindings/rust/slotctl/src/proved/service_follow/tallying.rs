@@ -5,7 +5,7 @@ use crate::kit::alloc::Global;
 use crate::proved::model_asked::reply::Reply;
 use crate::proved::model_pool::stay::Stay;
 use crate::proved::service_hall::hall::{Hall, MOST_EVENTS};
-use crate::proved::service_loop::persist::Tally;
+use crate::proved::service_watch::numbers::Tally;
 
 // How many numbers of the pool nobody holds; `None` where an allocation failed.
 fn numbers_free(alloc: Global, hall: &Hall) -> Option<u64> {

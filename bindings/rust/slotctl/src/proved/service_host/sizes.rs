@@ -1,9 +1,7 @@
-// Erased by bindings/rust/erase from crates/service_host/src/sizes.rt, sha256 bcfae143bd6fbdc247c63a2e4b43e5df8f846fc94ab651dcab21f25db1822e73.
+// Erased by bindings/rust/erase from crates/service_host/src/sizes.rt, sha256 65f735eefd104701e56c8aa00b1381eb70db5362982f1c14d1803db0b7371d43.
 //! How many numbers the pool of a hall has, and how many it is to have.
 
 use crate::kit::alloc::{AllocError, Global};
-use crate::kit::fs::File;
-use crate::kit::rt::Files;
 use crate::kit::Vec;
 use crate::proved::model_asked::config::Config;
 use crate::proved::model_asked::kind::WorldKind;
@@ -12,7 +10,6 @@ use crate::proved::service_follow::log_persister::is_first_line;
 use crate::proved::service_follow::pause::Pause;
 use crate::proved::service_hall::hall::Hall;
 use crate::proved::service_host::failure::HostFailure;
-use crate::proved::service_host::log_plan::fresh_token;
 use crate::proved::service_log::store::Store;
 use crate::proved::service_log::store_fault::StoreFault;
 
@@ -145,8 +142,13 @@ fn read_first<S: Store, P: Pause>(
     Err(StoreFault::Lost)
 }
 
-// The config that the hall of a log was made with, if that differs from this one in the size of the pool alone, and else this one.
-fn config_in<S: Store, P: Pause>(
+/// Returns the config that the hall of a log was made with, if that differs from this one in the size of the pool alone, and else this one.
+///
+/// # Errors
+///
+/// - `Log`: the store did not answer.
+/// - `Memory`: an allocation failed.
+pub(crate) fn config_in<S: Store, P: Pause>(
     alloc: Global,
     store: &mut S,
     pause: &mut P,
@@ -162,24 +164,4 @@ fn config_in<S: Store, P: Pause>(
         Err(StoreFault::Memory) => Err(HostFailure::Memory),
         Err(fault) => Err(HostFailure::Log(LogFault::Store(fault))),
     }
-}
-
-/// Returns the config that the hall of a log was made with, if that differs from this one in the size of the pool alone, and else this one; and a token
-/// that nobody else has.
-///
-/// # Errors
-///
-/// - `Log`: the store did not answer.
-/// - `Memory`: an allocation failed.
-/// - `NoToken`: the system gave no random bytes.
-pub(crate) fn config_and_token<R: Files<File = File>, S: Store, P: Pause>(
-    rt: &R,
-    alloc: Global,
-    store: &mut S,
-    pause: &mut P,
-    config: Config,
-) -> Result<(Config, [u8; 32]), HostFailure> {
-    let config = config_in(alloc, store, pause, config)?;
-    let token = fresh_token(rt)?;
-    Ok((config, token))
 }

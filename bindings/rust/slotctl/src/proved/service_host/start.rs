@@ -1,4 +1,4 @@
-// Erased by bindings/rust/erase from crates/service_host/src/start.rt, sha256 cf223c99ed68db2b9808aa9746d20a96eed2fb7a075a05d348aa956aa0e36e98.
+// Erased by bindings/rust/erase from crates/service_host/src/start.rt, sha256 33b04352c692bd6981a7d2a90c57be09549bfc4f23ed2f2b548699e30f3c02b2.
 //! A whole server of a hall, by its plan.
 
 use crate::kit::alloc::{AllocGlobal, Global};
@@ -24,10 +24,12 @@ use crate::proved::service_host::export::write_events;
 use crate::proved::service_host::failure::HostFailure;
 use crate::proved::service_host::holders::config_of;
 use crate::proved::service_host::keepers::stays_at_start;
-use crate::proved::service_host::log_plan::{members_of, LogPlan, Patience, MEMBER_SECONDS};
+use crate::proved::service_host::log_plan::{
+    fresh_token, members_of, LogPlan, Patience, MEMBER_SECONDS,
+};
 use crate::proved::service_host::persisters::{Recorded, Unrecorded};
 use crate::proved::service_host::reading::Reading;
-use crate::proved::service_host::sizes::{are_alike_but_size, config_and_token};
+use crate::proved::service_host::sizes::{are_alike_but_size, config_in};
 use crate::proved::service_host::terms::{followed_any, terms_by, warn_of_none};
 use crate::proved::service_host::widening::{
     check_size, widen_followed, widen_recorded, SizeAsked,
@@ -329,8 +331,12 @@ fn followed<R: Files<File = File>, S: Store, P: Pause>(
     terms: HallTerms,
 ) -> Result<LogPersister<S, P>, HostFailure> {
     let (mut store, mut pause) = (store, pause);
-    match config_and_token(rt, alloc, &mut store, &mut pause, config) {
-        Ok((config, token)) => Ok(LogPersister::open(
+    let config = match config_in(alloc, &mut store, &mut pause, config) {
+        Ok(config) => config,
+        Err(failure) => return Err(failure),
+    };
+    match fresh_token(rt) {
+        Ok(token) => Ok(LogPersister::open(
             alloc, store, pause, config, token, terms,
         )?),
         Err(failure) => Err(failure),

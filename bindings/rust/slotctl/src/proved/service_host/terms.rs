@@ -1,4 +1,4 @@
-// Erased by bindings/rust/erase from crates/service_host/src/terms.rt, sha256 e6fb3b32f7cea06e5cff842c028692952f28240f20503b144a7b70140f8b2351.
+// Erased by bindings/rust/erase from crates/service_host/src/terms.rt, sha256 03d924fdb68a3ff010fac6000b0ed6db0cac40b791cc0380c619394f0b1e5d21.
 //! For how long stays go on in a hall over a log, and how an operator changes that.
 
 use crate::kit::alloc::Global;
@@ -12,8 +12,8 @@ use crate::proved::service_follow::log_persister::{LogPersister, TermsChange};
 use crate::proved::service_follow::pause::Pause;
 use crate::proved::service_follow::reply_queue::ReplyQueue;
 use crate::proved::service_host::failure::HostFailure;
-use crate::proved::service_host::log_plan::{LogPlan, Patience};
-use crate::proved::service_host::sizes::config_and_token;
+use crate::proved::service_host::log_plan::{fresh_token, LogPlan, Patience};
+use crate::proved::service_host::sizes::config_in;
 use crate::proved::service_host::start::store_of;
 use crate::proved::service_log::store::Store;
 
@@ -36,7 +36,8 @@ pub(crate) fn terms_by(grace: Option<u64>) -> HallTerms {
 ///
 /// # Errors
 ///
-/// - Those of `config_and_token`.
+/// - Those of `config_in`.
+/// - `NoToken`: the system gave no random bytes.
 /// - Those of `LogPersister::open_any`.
 pub(crate) fn followed_any<R: Files<File = File>, S: Store, P: Pause>(
     rt: &R,
@@ -47,8 +48,12 @@ pub(crate) fn followed_any<R: Files<File = File>, S: Store, P: Pause>(
     terms: HallTerms,
 ) -> Result<LogPersister<S, P>, HostFailure> {
     let (mut store, mut pause) = (store, pause);
-    match config_and_token(rt, alloc, &mut store, &mut pause, config) {
-        Ok((config, token)) => Ok(LogPersister::open_any(
+    let config = match config_in(alloc, &mut store, &mut pause, config) {
+        Ok(config) => config,
+        Err(failure) => return Err(failure),
+    };
+    match fresh_token(rt) {
+        Ok(token) => Ok(LogPersister::open_any(
             alloc, store, pause, config, token, terms,
         )?),
         Err(failure) => Err(failure),

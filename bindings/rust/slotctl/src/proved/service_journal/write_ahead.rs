@@ -1,4 +1,4 @@
-// Erased by bindings/rust/erase from crates/service_journal/src/write_ahead.rt, sha256 406b3f1d6985a20ac2d23f612a4fb0f26a252c40632359134e228c36013c6b26.
+// Erased by bindings/rust/erase from crates/service_journal/src/write_ahead.rt, sha256 35ba55e4e1c860e64dbe4cbc5ee9246e202cb2d82e8aa35939a43dff16aeaf7f.
 //! A hall, and the lines of its journal that are not written yet.
 
 use crate::kit::alloc::Global;

@@ -1,4 +1,4 @@
-// Erased by bindings/rust/erase from crates/service_lock/src/matching.rt, sha256 9ba13931dd94eccc21daac049baf03273c647ef2cc395f63e8536d8b90849efd.
+// Erased by bindings/rust/erase from crates/service_lock/src/matching.rt, sha256 c6af905033853414535d6029f2dbe5c45cc5ddcacb88a58e7f008da010d0c0b0.
 //! The end of a history: it is compared with what its callers kept.
 
 use crate::kit::sync::ledger::Share;
@@ -43,6 +43,24 @@ impl<L: LockName> Clerk<L> {
     }
 }
 
+/// Whoever called a lock, with the events that it kept.
+trait Caller: Sized {
+    /// Returns what it kept.
+    fn kept_log(&self) -> &KeptLog;
+}
+
+impl<L: LockName> Caller for Clerk<L> {
+    fn kept_log(&self) -> &KeptLog {
+        &self.kept
+    }
+}
+
+impl<L: LockName> Caller for Session<L> {
+    fn kept_log(&self) -> &KeptLog {
+        &self.clerk.kept
+    }
+}
+
 /// Whether what was kept is in the history, at its place.
 fn fits(hall: &Hall, kept: &Kept) -> bool {
     match hall.get(kept.place) {
@@ -82,30 +100,16 @@ fn mark_list(hall: &Hall, marks: &mut [bool], left: usize, kept: &KeptLog) -> Op
     Some(left - kept.len())
 }
 
-/// Marks what sessions kept, and returns how many places are left.
-fn mark_sessions<L: LockName>(
+/// Marks what these callers kept, and returns how many places are left.
+fn mark_each<C: Caller>(
     hall: &Hall,
     marks: &mut [bool],
     left: usize,
-    sessions: &Vec<Session<L>>,
+    callers: &Vec<C>,
 ) -> Option<usize> {
     let mut now = left;
-    for session in sessions {
-        now = mark_list(hall, marks, now, &session.clerk.kept)?;
-    }
-    Some(now)
-}
-
-/// Marks what clerks kept, and returns how many places are left.
-fn mark_clerks<L: LockName>(
-    hall: &Hall,
-    marks: &mut [bool],
-    left: usize,
-    clerks: &Vec<Clerk<L>>,
-) -> Option<usize> {
-    let mut now = left;
-    for clerk in clerks {
-        now = mark_list(hall, marks, now, &clerk.kept)?;
+    for caller in callers {
+        now = mark_list(hall, marks, now, caller.kept_log())?;
     }
     Some(now)
 }
@@ -123,10 +127,10 @@ fn mark_callers<L: LockName>(
     sessions: &Vec<Session<L>>,
     clerks: &Vec<Clerk<L>>,
 ) -> bool {
-    let Some(middle) = mark_sessions(hall, marks, hall.len(), sessions) else {
+    let Some(middle) = mark_each(hall, marks, hall.len(), sessions) else {
         return false;
     };
-    let Some(left) = mark_clerks(hall, marks, middle, clerks) else {
+    let Some(left) = mark_each(hall, marks, middle, clerks) else {
         return false;
     };
     if left != 0 {

@@ -1,4 +1,4 @@
-// Erased by bindings/rust/erase from crates/service_loop/src/answering.rt, sha256 21465d2a81e4ff3a5af7cd5739be49cdd7dd6b19e39833283bd831495ee2f3cb.
+// Erased by bindings/rust/erase from crates/service_loop/src/answering.rt, sha256 41f1d2e16f25b7b82aee602da499aea44eed3015bfca9a56980c43e810bb1e75.
 //! Lines that ask who holds numbers, or the terms, after a turn of the loop.
 
 use crate::kit::alloc::Allocator;

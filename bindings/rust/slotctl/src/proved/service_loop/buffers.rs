@@ -1,4 +1,4 @@
-// Erased by bindings/rust/erase from crates/service_loop/src/buffers.rt, sha256 b907fe4855778d806b8c905aa82241e642650f9ae2e1573691d5615422bd4259.
+// Erased by bindings/rust/erase from crates/service_loop/src/buffers.rt, sha256 23dcfaa27332f6af9b231869d766ca68c6f90c3eb7699e21a5133f76c8a1c6be.
 //! A connection without its stream.
 
 use crate::kit::alloc::Allocator;

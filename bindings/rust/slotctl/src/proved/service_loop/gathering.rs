@@ -1,4 +1,4 @@
-// Erased by bindings/rust/erase from crates/service_loop/src/gathering.rt, sha256 cec57cbac1c388235c35ff48e9ca8a3f16a41575342bab889d6eb7a1960f7d0e.
+// Erased by bindings/rust/erase from crates/service_loop/src/gathering.rt, sha256 155332c6eae8572a5a68c177dccef76baa8cf544aeaa94848e5e5eb9b07e91a6.
 //! One turn of the loop over a service that learns its answers before.
 
 use crate::kit::alloc::Allocator;

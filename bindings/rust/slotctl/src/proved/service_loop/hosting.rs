@@ -1,4 +1,4 @@
-// Erased by bindings/rust/erase from crates/service_loop/src/hosting.rt, sha256 924d33e9bd4911d20825616b7f6ab07dc38aa519505f1aca811dc16f11abb7b0.
+// Erased by bindings/rust/erase from crates/service_loop/src/hosting.rt, sha256 35f2eb98d45e26406c80c49ed72464108e88205bb9e2d4a77d0b8610b88e434c.
 //! A server in one thread, by the readiness of its sockets.
 
 use crate::kit::alloc::{AllocError, Global};
@@ -23,7 +23,7 @@ use crate::proved::service_loop::connections::ConnectionTable;
 use crate::proved::service_loop::doors::{Accepted, Doors};
 use crate::proved::service_loop::gathering::{iterate_prefetched, Batch, Called};
 use crate::proved::service_loop::host_fault::HostFault;
-use crate::proved::service_loop::persist::{Persist, Tally};
+use crate::proved::service_loop::persist::Persist;
 use crate::proved::service_loop::releasing::end_due;
 use crate::proved::service_loop::shared::SharedBuffers;
 use crate::proved::service_loop::take_queue::TakeQueue;
@@ -33,6 +33,7 @@ use crate::proved::service_loop::terms::Terms;
 use crate::proved::service_loop::turns::iterate;
 use crate::proved::service_loop::watching::{LoopNumbers, Watch};
 use crate::proved::service_watch::listeners::listening::Listeners;
+use crate::proved::service_watch::numbers::Tally;
 use crate::proved::service_watch::scrapers::Scrapers;
 use crate::proved::text_player::service::Service;
 

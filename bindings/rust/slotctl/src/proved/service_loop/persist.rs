@@ -1,56 +1,10 @@
-// Erased by bindings/rust/erase from crates/service_loop/src/persist.rt, sha256 c3ed0347aa3792a831d30015d6d4d1180917e4fe89139c39d49460e7343c6014.
+// Erased by bindings/rust/erase from crates/service_loop/src/persist.rt, sha256 4230d0c48aa64f137170318706dbc604b83cb5f885343c075d73e0e09bb8eeef.
 //! What is kept of a turn before its replies go out.
 
 use crate::kit::alloc::Allocator;
-use crate::proved::service_watch::durations::DurationHistogram;
+use crate::proved::service_watch::numbers::Tally;
 use crate::proved::text_lines::held::query::HeldQuery;
 use crate::proved::text_lines::replies::Replies;
-
-/// What a service and its persister tell of themselves to whoever looks on. What does not apply there, or is not known, is none.
-#[derive(Clone, Copy, Debug, PartialEq, Eq)]
-pub struct Tally {
-    /// How many events the history has.
-    pub events: u64,
-    /// How many more it takes.
-    pub events_left: Option<u64>,
-    /// How often the history was compacted since the start.
-    pub compactions: Option<u64>,
-    /// How many identities compete for numbers, those that hold one among them.
-    pub competitors: Option<u64>,
-    /// How many numbers nobody holds.
-    pub numbers_free: Option<u64>,
-    /// How many names are given.
-    pub names_given: Option<u64>,
-    /// How many bytes of a journal are kept.
-    pub journal_bytes: Option<u64>,
-    /// How long the syncs of a journal took.
-    pub syncs: Option<DurationHistogram>,
-    /// How many entries of a log are applied.
-    pub log_place: Option<u64>,
-    /// How many of them since the last compaction.
-    pub log_since_compaction: Option<u64>,
-    /// Whether the log answered when it was last asked.
-    pub log_answers: Option<bool>,
-}
-
-impl Tally {
-    /// Nothing is known but how many events there are.
-    pub fn of_events(events: u64) -> Tally {
-        Tally {
-            events,
-            events_left: None,
-            compactions: None,
-            competitors: None,
-            numbers_free: None,
-            names_given: None,
-            journal_bytes: None,
-            syncs: None,
-            log_place: None,
-            log_since_compaction: None,
-            log_answers: None,
-        }
-    }
-}
 
 /// Whether a persister has prefetched the answers to the lines that it got.
 #[derive(Clone, Copy, Debug, PartialEq, Eq)]

@@ -1,4 +1,4 @@
-// Erased by bindings/rust/erase from crates/service_loop/src/releasing.rt, sha256 41f42bd9a8b2b3cd7532b3f22363603d0966b1e83f353a307e5f2eabcc3daf12.
+// Erased by bindings/rust/erase from crates/service_loop/src/releasing.rt, sha256 4cde325166f4753715504f7040a3b0809baa35756d129ceb1ef2a945ae16bc37.
 //! Stays that a server ends.
 
 use crate::kit::alloc::Global;

@@ -1,4 +1,4 @@
-// Erased by bindings/rust/erase from crates/service_loop/src/turns.rt, sha256 43d0fe086df90a47982012986ffaed8a4d5fbdb6efe7f9b97e09f5d4400998bf.
+// Erased by bindings/rust/erase from crates/service_loop/src/turns.rt, sha256 29408ab7427711a27958891375a67b050a2758273ca2427b2d6e0bc834a282ae.
 //! One turn of the loop.
 
 use crate::kit::alloc::Allocator;

@@ -1,10 +1,9 @@
-// Erased by bindings/rust/erase from crates/service_loop/src/watching.rt, sha256 094844995e0f6057ccc347b8cf9cc08b11350fc02629df6c2f5d179f6a449997.
+// Erased by bindings/rust/erase from crates/service_loop/src/watching.rt, sha256 d46ad84329232d617a01c462569260b520f5f3dded9c74b9798a5ef806d34435.
 //! Those who watch a server.
 
 use crate::kit::io;
 use crate::kit::net::SocketAddr;
-use crate::proved::service_loop::persist::Tally;
-use crate::proved::service_watch::numbers::{Numbers, Releases, REFUSALS};
+use crate::proved::service_watch::numbers::{Numbers, Releases, Tally, REFUSALS};
 use crate::proved::service_watch::scrapers::Scrapers;
 
 /// Those who watch, and what is remembered for them.
@@ -115,16 +114,7 @@ impl Watch {
             refusals: loops.refusals,
             audit_lines_lost: loops.audit_lines_lost,
             ready: loops.learnt && may_answer(tally.log_answers),
-            events: tally.events,
-            events_left: tally.events_left,
-            compactions: tally.compactions,
-            competitors: tally.competitors,
-            numbers_free: tally.numbers_free,
-            names_given: tally.names_given,
-            journal_bytes: tally.journal_bytes,
-            syncs: tally.syncs,
-            log_place: tally.log_place,
-            log_since_compaction: tally.log_since_compaction,
+            tally: *tally,
             log_age: age_of(tally.log_place, loops.ticks, self.placed),
         }
     }

@@ -1,4 +1,4 @@
-// Erased by bindings/rust/erase from crates/service_watch/src/page.rt, sha256 01d39e5e0022b08b0f7d66dce23cf83e9d7cab7e5cbd385d96c45f312ea28d11.
+// Erased by bindings/rust/erase from crates/service_watch/src/page.rt, sha256 50199131a3f0925a25abc76d153fc00168d8aedfeddb33f045137cc1de4d3842.
 //! The page of metrics.
 
 use crate::kit::alloc::AllocError;
@@ -233,42 +233,42 @@ fn put_hall(numbers: &Numbers, page: &mut Vec<u8>) -> Result<(), AllocError> {
         Kind::Gauge,
         "slotctl_history_events",
         "Events of the history.",
-        numbers.events,
+        numbers.tally.events,
         page,
     )?;
     put_known(
         Kind::Gauge,
         "slotctl_history_events_left",
         "Events that the history takes yet, of 1000000; at 0 each event is refused.",
-        numbers.events_left,
+        numbers.tally.events_left,
         page,
     )?;
     put_known(
         Kind::Counter,
         "slotctl_compactions_total",
         "Compactions of the history since the start.",
-        numbers.compactions,
+        numbers.tally.compactions,
         page,
     )?;
     put_known(
         Kind::Gauge,
         "slotctl_competitors",
         "Identities that compete for numbers, those that hold one among them.",
-        numbers.competitors,
+        numbers.tally.competitors,
         page,
     )?;
     put_known(
         Kind::Gauge,
         "slotctl_numbers_free",
         "Numbers of the pool that nobody holds.",
-        numbers.numbers_free,
+        numbers.tally.numbers_free,
         page,
     )?;
     put_known(
         Kind::Gauge,
         "slotctl_names_given",
         "Names that are given.",
-        numbers.names_given,
+        numbers.tally.names_given,
         page,
     )
 }
@@ -310,22 +310,22 @@ fn put_keeping(numbers: &Numbers, page: &mut Vec<u8>) -> Result<(), AllocError> 
         Kind::Gauge,
         "slotctl_journal_bytes",
         "Bytes of the journal.",
-        numbers.journal_bytes,
+        numbers.tally.journal_bytes,
         page,
     )?;
-    put_known_syncs(numbers.syncs, page)?;
+    put_known_syncs(numbers.tally.syncs, page)?;
     put_known(
         Kind::Gauge,
         "slotctl_log_place",
         "Entries of the log that are applied.",
-        numbers.log_place,
+        numbers.tally.log_place,
         page,
     )?;
     put_known(
         Kind::Gauge,
         "slotctl_log_entries_since_compaction",
         "Entries of the log that are applied since the last compaction; at 10000 the next is due.",
-        numbers.log_since_compaction,
+        numbers.tally.log_since_compaction,
         page,
     )?;
     put_known(

@@ -1,9 +1,9 @@
-// Erased by bindings/rust/erase from crates/service_watch/src/tests.rt, sha256 02d894b5e73155961e80000d07b0b8ec22d29ddf888054339fd35d0021b5ab31.
+// Erased by bindings/rust/erase from crates/service_watch/src/tests.rt, sha256 77aecd27cac024286ff1cf02df88ab4a2835d7185eb08d5867087e14268e528f.
 use crate::kit::Vec;
 use crate::kit::HostRuntime;
 use crate::proved::service_watch::durations::DurationHistogram;
 use crate::proved::service_watch::request::{Asked, asked_by};
-use crate::proved::service_watch::numbers::{Numbers, Releases};
+use crate::proved::service_watch::numbers::{Numbers, Releases, Tally};
 use crate::proved::service_watch::answer::put_answer;
 use crate::proved::service_watch::page::put_page;
 use crate::kit::time::Duration;
@@ -24,16 +24,7 @@ fn few() -> Numbers {
         refusals: [0, 0, 0, 0, 0, 0, 0, 1, 0, 0, 0, 0, 0, 0],
         audit_lines_lost: None,
         ready: true,
-        events: 7,
-        events_left: None,
-        compactions: None,
-        competitors: None,
-        numbers_free: None,
-        names_given: None,
-        journal_bytes: None,
-        syncs: None,
-        log_place: None,
-        log_since_compaction: None,
+        tally: Tally::of_events(7),
         log_age: None,
     }
 }
@@ -103,16 +94,19 @@ fn each_number_has_its_line(rt: HostRuntime) {
     syncs.note(Duration::from_micros(2_000_007));
     let numbers = Numbers {
         ready: false,
-        events_left: Some(999_993),
-        compactions: Some(4),
-        competitors: Some(5),
-        numbers_free: Some(6),
-        names_given: Some(8),
-        journal_bytes: Some(9),
         audit_lines_lost: Some(12),
-        syncs: Some(syncs),
-        log_place: Some(10),
-        log_since_compaction: Some(13),
+        tally: Tally {
+            events_left: Some(999_993),
+            compactions: Some(4),
+            competitors: Some(5),
+            numbers_free: Some(6),
+            names_given: Some(8),
+            journal_bytes: Some(9),
+            syncs: Some(syncs),
+            log_place: Some(10),
+            log_since_compaction: Some(13),
+            ..Tally::of_events(7)
+        },
         log_age: Some(11),
         ..few()
     };

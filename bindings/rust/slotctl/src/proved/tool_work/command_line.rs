@@ -1,4 +1,4 @@
-// Erased by bindings/rust/erase from crates/tool_work/src/command_line.rt, sha256 b0abcc99db635503cb315bb315b32a90ea41e569805b917d0aa38063f14c2987.
+// Erased by bindings/rust/erase from crates/tool_work/src/command_line.rt, sha256 447216f282792345893d909644ee18bdd1d82e0ef90af12f91cb22bbf38a414e.
 //! The command line of the program, for `clap`.
 
 use crate::kit::alloc::{AllocError, Global};
@@ -307,7 +307,8 @@ const HOST: Manual = Manual {
         Choice {
             name: "idle",
             takes: Takes::SomeNumber(0, 31_536_000),
-            help: "after how many seconds a client that says nothing is closed, or 0 for never; without this 30 with --hold connection, and else 600; an empty line, answered bad 3, keeps it and adds nothing",
+            help: "after how many seconds a client that says nothing is closed, or 0 for never; without this 30 with --hold connection, and else 600; \
+                an empty line, answered bad 3, keeps it and adds nothing",
         },
         Choice {
             name: "hold",
@@ -367,7 +368,8 @@ const HOST: Manual = Manual {
         Choice {
             name: "log",
             takes: Takes::Text("FILE"),
-            help: "appends to a file a line of JSON for each number taken or given back and each refusal 8, 9 or 10, with the time and the peer; moved away it is made anew",
+            help: "appends to a file a line of JSON for each number taken or given back and each refusal 8, 9 or 10, \
+                with the time and the peer; moved away it is made anew",
         },
     ],
 };

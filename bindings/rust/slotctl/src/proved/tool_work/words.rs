@@ -1,4 +1,4 @@
-// Erased by bindings/rust/erase from crates/tool_work/src/words.rt, sha256 e62933d52cc8c0f7a9cef830e7036a89b055b08aa50985a12737f53229678923.
+// Erased by bindings/rust/erase from crates/tool_work/src/words.rt, sha256 92daa1168d99f06fe5561450746a1186ceb493417efb2e16209e02e1307d6a69.
 //! What the words of a command line ask for.
 
 use crate::kit::alloc::Global;
@@ -24,9 +24,14 @@ fn typed_world(name: &str) -> Option<WorldKind> {
     }
 }
 
+// The text that is matched for an option, where there is one.
+fn text_given<'a>(matches: &ArgMatches<'a>, name: &str) -> Option<&'a str> {
+    matches.get_str(name)
+}
+
 // The world that is matched.
 fn world_given(matches: &ArgMatches<'_>) -> Option<WorldKind> {
-    typed_world(matches.get_str("world")?)
+    typed_world(text_given(matches, "world")?)
 }
 
 // The number that is matched for an option.
@@ -97,7 +102,7 @@ fn serve_given(matches: &ArgMatches<'_>) -> Option<Serving> {
 
 // The address that is matched for an option, where it is one.
 fn address_given(matches: &ArgMatches<'_>, name: &str) -> Option<IpAddr> {
-    matches.get_str(name)?.parse::<IpAddr>().ok()
+    text_given(matches, name)?.parse::<IpAddr>().ok()
 }
 
 // A number as a port, where it is one.
@@ -115,12 +120,7 @@ fn port_given(matches: &ArgMatches<'_>, name: &str) -> Option<u16> {
 
 // The mode that is matched, where it is octal digits.
 fn mode_given(matches: &ArgMatches<'_>) -> Option<u64> {
-    u64::from_str_radix(matches.get_str("mode")?, 8).ok()
-}
-
-// The text that is matched for an option, where there is one.
-fn text_given<'a>(matches: &ArgMatches<'a>, name: &str) -> Option<&'a str> {
-    matches.get_str(name)
+    u64::from_str_radix(text_given(matches, "mode")?, 8).ok()
 }
 
 // Whether an option that only a log has is matched.

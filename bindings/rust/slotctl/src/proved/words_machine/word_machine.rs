@@ -1,4 +1,4 @@
-// Erased by bindings/rust/erase from crates/words_machine/src/word_machine.rt, sha256 9730d1a6fb99b939d6da776b5f3d3be9fb274e5aa7db8b9d1bc6bb50f7156de2.
+// Erased by bindings/rust/erase from crates/words_machine/src/word_machine.rt, sha256 7457ec56c638f7b9d6101009cebaf9f0e7bd853272d2de12d06037382219c938.
 //! A machine over words.
 
 use crate::kit::alloc::{AllocError, Allocator};
@@ -54,11 +54,10 @@ impl<P: WordProgram, A: Allocator> WordMachine<P, A> {
         let FreshSeat { number, mut seat } = fresh;
         let mut program = P::start(self.words.most(), number + 1, identity);
         let (outcome, accesses) = self.words.run(&mut seat, number, identity, &mut program);
-        let end = program.end();
         EnteredSeat {
             _number: number,
             identity,
-            _end: end,
+            _program: program,
             outcome,
             accesses,
             _badge: seat.into_badge(),

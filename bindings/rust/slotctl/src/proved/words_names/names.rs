@@ -1,4 +1,4 @@
-// Erased by bindings/rust/erase from crates/words_names/src/names.rt, sha256 00f1a6df5c192c807c7b9ae4f712a4d8cfb553a9ab460e9f10df38d86ffdcb3f.
+// Erased by bindings/rust/erase from crates/words_names/src/names.rt, sha256 fa54e6a637dad16d046ff9e502f78654c352c8a36ecaae372069ed531ba083b3.
 //! The names.
 
 use crate::kit::alloc::Allocator;

@@ -1,4 +1,4 @@
-// Erased by bindings/rust/erase from crates/words_names/src/seats.rt, sha256 2221955e297f5a5873643da1c8d6a48ff8d628b27d75a88d7df7b72a2c402af8.
+// Erased by bindings/rust/erase from crates/words_names/src/seats.rt, sha256 460f90af660cb33c8b4c537e24bf7339775ae61824075df66d63c228c43db944.
 //! The seats: before they are dealt, before and after they are renamed, and what they can show of their names.
 
 use crate::proved::model_recursion::namer::Namer;

@@ -1,25 +1,14 @@
-// Erased by bindings/rust/erase from crates/words_machine/src/grid/seats.rt, sha256 eaee78d72f64911fddabbe537f813a20697ad2fa4563878e939ef86c2ccfefa9.
+// Erased by bindings/rust/erase from crates/words_machine/src/grid/seats.rt, sha256 922e82d99a5af8d923d1d20fe1c922490b9f820cf62ed880750ce9c4b4ade70c.
 //! The seats of a grid, before they are dealt and before and after their walks, and claims of their places.
 
 use crate::proved::model_splitter::grid::walker::Walker;
 use crate::proved::model_steps::place::Place;
 
 /// The seats of a grid that are not dealt yet, by rising number.
-pub struct GridDealer {
-    pub(crate) dealer: crate::proved::words_machine::seats::Dealer<Walker>,
-}
-
-impl GridDealer {
-    /// Returns the number of seats that were dealt.
-    pub fn dealt(&self) -> u64 {
-        self.dealer.dealt()
-    }
-}
+pub type GridDealer = crate::proved::words_machine::seats::Dealer<Walker>;
 
 /// A seat that has not entered. `enter` takes it, so no seat enters twice.
-pub struct FreshGridSeat {
-    pub(crate) seat: crate::proved::words_machine::seats::FreshSeat<Walker>,
-}
+pub type FreshGridSeat = crate::proved::words_machine::seats::FreshSeat<Walker>;
 
 /// A seat that has entered, with the door at which its walk stopped.
 pub struct EnteredGridSeat {

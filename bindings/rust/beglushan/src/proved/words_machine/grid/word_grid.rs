@@ -1,4 +1,4 @@
-// Erased by bindings/rust/erase from crates/words_machine/src/grid/word_grid.rt, sha256 aea8e134e90c5c9b5f49379dea000e268d6e82792f04186cde373d16bc2db6c8.
+// Erased by bindings/rust/erase from crates/words_machine/src/grid/word_grid.rt, sha256 f0a8a08c1fbd1bddb20883d4d90f195f3896ff4ce3a2aab4562e7ef0afd8d883.
 //! The grid.
 
 use crate::kit::alloc::Allocator;
@@ -28,7 +28,7 @@ impl<A: Allocator + Clone> WordGrid<A> {
             return Err(Refusal::OutOfRange);
         }
         let (machine, dealer) = WordMachine::new(alloc, most)?;
-        Ok((WordGrid { machine }, GridDealer { dealer }))
+        Ok((WordGrid { machine }, dealer))
     }
 }
 
@@ -41,8 +41,7 @@ impl<A: Allocator> WordGrid<A> {
     /// Deals the seat of the least number that was not dealt, or returns `None` if all seats were dealt. The dealer is
     /// of this grid.
     pub fn deal(&self, dealer: &mut GridDealer) -> Option<FreshGridSeat> {
-        let seat = self.machine.deal(&mut dealer.dealer)?;
-        Some(FreshGridSeat { seat })
+        self.machine.deal(dealer)
     }
 
     /// Makes the walk of a seat of this grid, by reads and writes (Moir and Anderson 1995).
@@ -54,8 +53,8 @@ impl<A: Allocator> WordGrid<A> {
     ///
     /// At most `4b` accesses, where `b` walks had begun when this one ended, whatever the other seats do.
     pub fn enter(&self, fresh: FreshGridSeat) -> EnteredGridSeat {
-        let own = self.machine.own_number(&fresh.seat);
-        let seat = self.machine.enter(fresh.seat, own);
+        let own = self.machine.own_number(&fresh);
+        let seat = self.machine.enter(fresh, own);
         EnteredGridSeat { seat }
     }
 }

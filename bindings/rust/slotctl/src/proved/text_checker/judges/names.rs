@@ -1,4 +1,4 @@
-// Erased by bindings/rust/erase from crates/text_checker/src/judges/names.rt, sha256 cbcaba1f2828bdb39b2dcb513e415931ab56f72174e9fc59b03107ae8621a7cd.
+// Erased by bindings/rust/erase from crates/text_checker/src/judges/names.rt, sha256 de7498ee4281037e6675c0b53d74cb434311b7a35ef722295215dadd12b0396a.
 //! The state of the renaming object.
 
 use crate::kit::alloc::{AllocError, Global};
@@ -81,15 +81,8 @@ impl Names {
 
     /// Returns the error that `begin` of an identity must return, or `None`.
     pub fn begin_refusal(&self, id: u64) -> Option<Refusal> {
-        if id == 0 {
-            Some(Refusal::ZeroIdentity)
-        } else if self.participants.find(id).is_some() {
-            Some(Refusal::AlreadyBegun)
-        } else if self.most <= self.participants.count() as u64 {
-            Some(Refusal::Full)
-        } else {
-            None
-        }
+        self.participants
+            .entry_refusal(id, self.most, Refusal::AlreadyBegun, Refusal::Full)
     }
 
     /// Returns the error that a step of an identity must return, failed allocations aside, or `None`.

@@ -1,10 +1,11 @@
-// Erased by bindings/rust/erase from crates/text_checker/src/judges/people.rt, sha256 940ec71e75af4990b24268a18a1b4cab46360f9bd2b540e8098bcfebc748f55b.
+// Erased by bindings/rust/erase from crates/text_checker/src/judges/people.rt, sha256 b494e69ef877302e0a9cc149f43719b4e7077352a8fc2ea0207991c2858b0d1c.
 //! Participants in a list, found by their identities.
 
 use crate::kit::alloc::{AllocError, Global};
 use crate::kit::Vec;
 use crate::proved::model_steps::hints::Hints;
 use crate::proved::model_steps::participant::Participant;
+use crate::proved::model_steps::refusal::Refusal;
 
 /// Participants with distinct identities, in the order in which they came, and an index to try first for each. Contracts
 /// see the list.
@@ -40,6 +41,25 @@ impl<P: Copy> People<P> {
             return None;
         };
         Some(self.list[i].program)
+    }
+
+    /// Returns the error that the entry of an identity must return, where at most `most` may be in the list, or `None`.
+    pub fn entry_refusal(
+        &self,
+        id: u64,
+        most: u64,
+        known: Refusal,
+        full: Refusal,
+    ) -> Option<Refusal> {
+        if id == 0 {
+            Some(Refusal::ZeroIdentity)
+        } else if self.find(id).is_some() {
+            Some(known)
+        } else if most <= self.count() as u64 {
+            Some(full)
+        } else {
+            None
+        }
     }
 
     /// Replaces what is kept of an identity, if the list has it.

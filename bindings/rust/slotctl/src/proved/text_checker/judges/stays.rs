@@ -1,4 +1,4 @@
-// Erased by bindings/rust/erase from crates/text_checker/src/judges/stays.rt, sha256 4966e0f8ee05ae77cb2b20942207257177f64b3deec0163327aa56b5c5544301.
+// Erased by bindings/rust/erase from crates/text_checker/src/judges/stays.rt, sha256 72ea279b6e951cd2a99f93451b971f2fa570f30923cc9ae5b901fb1c7c7abcd6.
 //! The state of the pool and the slots.
 
 use crate::kit::alloc::{AllocError, Global};
@@ -50,15 +50,8 @@ impl Stays {
 
     /// Returns the error that `enter` of an identity must return, or `None`.
     pub fn enter_refusal(&self, id: u64) -> Option<Refusal> {
-        if id == 0 {
-            Some(Refusal::ZeroIdentity)
-        } else if self.competitors.find(id).is_some() {
-            Some(Refusal::AlreadyCompeting)
-        } else if self.size <= self.competitors.count() as u64 {
-            Some(Refusal::Crowded)
-        } else {
-            None
-        }
+        self.competitors
+            .entry_refusal(id, self.size, Refusal::AlreadyCompeting, Refusal::Crowded)
     }
 
     /// Returns the error that `probe` of an identity must return, or `None`.

@@ -1,4 +1,4 @@
-// Erased by bindings/rust/erase from crates/tool_work/src/drawn/jobs.rt, sha256 916f0adbdea699f8c21f8e93d30ac21e211469af38d2220a30e898f881c6dd47.
+// Erased by bindings/rust/erase from crates/tool_work/src/drawn/jobs.rt, sha256 550468b005cc1b56a8ad554420d171b20027f4d3f500917ed625b8c30991d2bc.
 //! Drawn runs by many threads.
 
 use crate::kit::alloc::Global;

@@ -1,4 +1,4 @@
-// Erased by bindings/rust/erase from crates/tool_work/src/drawn/runs.rt, sha256 1150edfbb17907ef28f019bef78ea6aed409e547a2941d53327b85a8370ba5e8.
+// Erased by bindings/rust/erase from crates/tool_work/src/drawn/runs.rt, sha256 e7123c226984d7ab66586d92566672b197eb64b693fbfbd4918be5f0751e3a84.
 //! Runs of drawn schedules.
 
 use crate::kit::alloc::Allocator;

@@ -1,4 +1,4 @@
-// Erased by bindings/rust/erase from crates/tool_work/src/drawn/schedule.rt, sha256 9c8396958ee3862d965055a292384e5be709a9fb2d12feb164ae46fa5fb16ec0.
+// Erased by bindings/rust/erase from crates/tool_work/src/drawn/schedule.rt, sha256 9f82902c92289926d99115a852f50d5e4fac447745d3cfa3b53964484e8b95c7.
 //! Schedules that are drawn.
 
 use crate::kit::alloc::Allocator;
