@@ -143,9 +143,9 @@ module _ {C D K : Type 0} (on : Seating C) (wide : Bool) (may : D → Request �
       (Serves numbers t.log ∷ [], (l, u, record { seats = seats; seats' = seats'; turn = t; log_is = refl; next = next; numbered = numbered; hears = hears }, (refl, refl)))
 
   -- or numbers
-  pub attended_takings : (ahead : Bool) (numbers : List ℕ) (next : ℕ) → AreNumbered numbers next → (k l : K) (w u : Attended D) (seats seats' : List (Option C)) → (t : TakingsKept on wide ahead may persists k w.service seats l u.service seats') → Hears (acts_in (number_at numbers) t.log) w u → Was k w l u
-  attended_takings ahead numbers next numbered k l w u seats seats' t hears =
-      (Takes numbers t.log ∷ [], (l, u, record { ahead = ahead; seats = seats; seats' = seats'; taking = t; log_is = refl; next = next; numbered = numbered; hears = hears }, (refl, refl)))
+  pub attended_takings : (ahead patient : Bool) (numbers : List ℕ) (next : ℕ) → AreNumbered numbers next → (k l : K) (w u : Attended D) (seats seats' : List (Option C)) → (t : TakingsKept on wide ahead patient may persists k w.service seats l u.service seats') → Hears (acts_in (number_at numbers) t.log) w u → Was k w l u
+  attended_takings ahead patient numbers next numbered k l w u seats seats' t hears =
+      (Takes numbers t.log ∷ [], (l, u, record { ahead = ahead; patient = patient; seats = seats; seats' = seats'; taking = t; log_is = refl; next = next; numbered = numbered; hears = hears }, (refl, refl)))
 
   -- before them their answers were prefetched, where there were any
   prefetched_then : (lines : List ℕ) (k mid l : K) (w u : Attended D) (ready : D) → ((lines ≡ []) × (mid ≡ k) × (ready ≡ w.service)) ⊎ prefetches k w.service lines mid ready → Was mid (record w { service = ready }) l u → Was k w l u
@@ -161,11 +161,11 @@ module _ {C D K : Type 0} (on : Seating C) (wide : Bool) (may : D → Request �
       prefetched_then lines k t.prefetched_by l w u t.ready t.prefetched
       (attended_turn numbers next numbered t.prefetched_by l (record w { service = t.ready }) u t.gathered_seats seats' t.turn (outside w t.ready u hears))
 
-  pub attended_takings_prefetched : (ahead : Bool) (numbers : List ℕ) (next : ℕ) → AreNumbered numbers next → (k l : K) (w u : Attended D) (lines : List ℕ) (seats seats' : List (Option C)) →
-      (t : TakingsPrefetched on wide ahead may prefetches persists k w.service seats lines l u.service seats') → Hears (acts_in (number_at numbers) t.turn.log) w u → Was k w l u
-  attended_takings_prefetched ahead numbers next numbered k l w u lines seats seats' t hears =
+  pub attended_takings_prefetched : (ahead patient : Bool) (numbers : List ℕ) (next : ℕ) → AreNumbered numbers next → (k l : K) (w u : Attended D) (lines : List ℕ) (seats seats' : List (Option C)) →
+      (t : TakingsPrefetched on wide ahead patient may prefetches persists k w.service seats lines l u.service seats') → Hears (acts_in (number_at numbers) t.turn.log) w u → Was k w l u
+  attended_takings_prefetched ahead patient numbers next numbered k l w u lines seats seats' t hears =
       prefetched_then lines k t.prefetched_by l w u t.ready t.prefetched
-      (attended_takings ahead numbers next numbered t.prefetched_by l (record w { service = t.ready }) u seats seats' t.turn (outside w t.ready u hears))
+      (attended_takings ahead patient numbers next numbered t.prefetched_by l (record w { service = t.ready }) u seats seats' t.turn (outside w t.ready u hears))
 
   -- so it is what a server does to its service and its persister
   served_ends : (passed : Bool) (tick : ℕ) (acts : List Act) (k l : K) (w u : Attended D) → EndsStays on wide may prefetches persists waits shares holds grace passed tick acts k w l u → WasServed may prefetches persists waits k w.service l u.service

@@ -97,14 +97,14 @@ module _ {T : Type 0} (may : T → Request → ShownReply → T → Type 0) (wid
 some_same : {C : Type 0} (c d : C) → Some c ≡ Some d → c ≡ d
 some_same c d e = cc
 
-module _ {C : Type 0} (on : Seating C) (wide ahead : Bool) where
-  pub seat_waits : (x : Option C) → SeatTakesNumber on wide ahead [] x x
+module _ {C : Type 0} (on : Seating C) (wide ahead patient : Bool) where
+  pub seat_waits : (x : Option C) → SeatTakesNumber on wide ahead patient [] x x
   seat_waits None = refl
   seat_waits (Some c) = (inl (refl, refl), refl, refl)
 
   -- one connection takes a number where it sits
   abbrev pub seat_took_number : {T : Type 0} (may : T → Request → ShownReply → T → Type 0) (Due : C → Type 0) (key : ℕ) (w : T) (seats : List (Option C)) (u : T) (was is : C) → key < length seats → get_or seats key None ≡ Some was → Due was → (Due is → ⊥) →
-      (turns : List Turn) → Runs may w turns u → MayTakeNumber wide ahead turns (on.buffers was) (on.buffers is) → on.left is ≡ on.left was → on.gone is ≡ on.gone was → SeatTook on wide ahead may Due key w seats u (set seats key (Some is))
+      (turns : List Turn) → Runs may w turns u → MayTakeNumber wide ahead patient turns (on.buffers was) (on.buffers is) → on.left is ≡ on.left was → on.gone is ≡ on.gone was → SeatTook on wide ahead patient may Due key w seats u (set seats key (Some is))
   seat_took_number may Due key w seats u was is below there due done turns run takes unread unsent = record {
     turns = turns;
     run = run;
@@ -122,7 +122,7 @@ module _ {C : Type 0} (on : Seating C) (wide ahead : Bool) where
   module _ {T : Type 0} (may : T → Request → ShownReply → T → Type 0) (Due : C → Type 0) (w : T) (seats : List (Option C)) where
     -- so far, where whoever is still due has taken none
     pub record Taking (log : TurnLog) (u : T) (seats' : List (Option C)) : Type 0 where
-      pub taken : NumbersTaken on wide ahead may w seats log u seats'
+      pub taken : NumbersTaken on wide ahead patient may w seats log u seats'
       pub waiting : (i : ℕ) (c : C) → get_or seats' i None ≡ Some c → Due c → (get_or seats i None ≡ Some c) × (turns_of i log ≡ [])
 
     pub taking_none : Taking [] w seats
@@ -131,15 +131,15 @@ module _ {C : Type 0} (on : Seating C) (wide ahead : Bool) where
       waiting = λ i c is due. (is, refl);
     }
 
-    pub taking_on : (log : TurnLog) (u v : T) (seats' seats'' : List (Option C)) (key : ℕ) → Taking log u seats' → (turn : SeatTook on wide ahead may Due key u seats' v seats'') → Taking (log ++ tagged key turn.turns) v seats''
+    pub taking_on : (log : TurnLog) (u v : T) (seats' seats'' : List (Option C)) (key : ℕ) → Taking log u seats' → (turn : SeatTook on wide ahead patient may Due key u seats' v seats'') → Taking (log ++ tagged key turn.turns) v seats''
     taking_on log u v seats' seats'' key so turn =
         let turns = turn.turns in
         let was = so.waiting key turn.was turn.was_there turn.due in
         record {
           taken = record {
             run = rw (all-append log (tagged key turns), all-tagged key turns) (runs-append may w u v (all_turns log) turns so.taken.run turn.run);
-            each = λ i. rw (of-append i log (tagged key turns)) (elim (cases_eq i key) as (λ _. SeatTakesNumber on wide ahead (turns_of i log ++ turns_of i (tagged key turns)) (get_or seats i None) (get_or seats'' i None)) [
-              | inl same ↦ subst (λ (k : ℕ). SeatTakesNumber on wide ahead (turns_of k log ++ turns_of k (tagged key turns)) (get_or seats k None) (get_or seats'' k None)) (sym same)
+            each = λ i. rw (of-append i log (tagged key turns)) (elim (cases_eq i key) as (λ _. SeatTakesNumber on wide ahead patient (turns_of i log ++ turns_of i (tagged key turns)) (get_or seats i None) (get_or seats'' i None)) [
+              | inl same ↦ subst (λ (k : ℕ). SeatTakesNumber on wide ahead patient (turns_of k log ++ turns_of k (tagged key turns)) (get_or seats k None) (get_or seats'' k None)) (sym same)
                   (rw (was.1, of-same key key turns (eq-eqb key key refl), was.0, turn.is_there) turn.takes)
               | inr other ↦ rw (of-other key i turns (ne_eqb key i (λ e. other (sym e))), append-nil (turns_of i log), turn.others i other) (so.taken.each i)
             ]);

@@ -75,9 +75,10 @@ module _ {C D K : Type 0} (on : Seating C) (wide : Bool) (may : D → Request �
   -- and so they took numbers (`TakesNumber`)
   pub record TakesLog (numbers : List ℕ) (log : TurnLog) (k : K) (w : Attended D) (l : K) (u : Attended D) : Type 0 where
     pub ahead : Bool
+    pub patient : Bool
     pub seats : List (Option C)
     pub seats' : List (Option C)
-    pub taking : TakingsKept on wide ahead may persists k w.service seats l u.service seats'
+    pub taking : TakingsKept on wide ahead patient may persists k w.service seats l u.service seats'
     pub log_is : taking.log ≡ log
     pub next : ℕ
     pub numbered : AreNumbered numbers next

@@ -1,6 +1,6 @@
 -- numbers that a server takes for its connections: `take ID` is `enter ID`, and then in the wide world one `seek ID`, elsewhere `probe ID` as often
 -- as it takes
-use Rattle.std.specs.Prelude.{◌≡◌, ◌⊎◌, ◌+◌, ℕ, replicate, Bool, true, false, List, [], ◌∷◌, ◌++◌, length, map, drop, get_or, Option, Some, None}
+use Rattle.std.specs.Prelude.{◌≡◌, ◌⊎◌, ◌+◌, ℕ, ltb, replicate, Bool, true, false, List, [], ◌∷◌, ◌++◌, length, map, drop, get_or, Option, Some, None}
 use Rattle.model_asked.specs.declared.event.Event.{Event}
 use Rattle.model_asked.specs.declared.event.Event.TheVariants as event
 use Rattle.model_asked.specs.declared.reply.Reply.{Reply}
@@ -18,7 +18,7 @@ use Rattle.service_loop.specs.BuffersState.{BuffersState}
 use Rattle.service_loop.specs.Reported.{IsAmong}
 use Rattle.service_loop.specs.Searching.{most_said, searched, searching}
 use Rattle.service_loop.specs.Seats.{RepliesSent, Seating}
-use Rattle.service_loop.specs.Waiting.{given_up, taken_for}
+use Rattle.service_loop.specs.Waiting.{first_wait, given_up, taken_for}
 
 -- behind this reply a number is searched for: `enter` was accepted, or a `probe` missed
 abbrev pub wants_search : {V : Type 0} → Reply V → Bool
@@ -80,19 +80,21 @@ abbrev pub is_crowded : {V : Type 0} → Reply V → Bool
 is_crowded (reply.Refused refusal.Crowded) = true
 is_crowded _ = false
 
--- the line asks for a number, all are held, and it waits on: nothing is answered, and nothing changes
-pub record WaitsOn (wide ahead : Bool) (turns : List Turn) (s s' : BuffersState) : Type 0 where
+-- the line asks for a number and waits for one, those who are called are patient, all are held, and it waits on: nothing is answered, and nothing changes
+pub record WaitsOn (wide ahead patient : Bool) (turns : List Turn) (s s' : BuffersState) : Type 0 where
   pub identity : ℕ
   pub count : ℕ
   pub asks : IsTakingOf s.inbox identity count
+  pub may_wait : patient ≡ true
+  pub waits : ltb 0 (first_wait s.inbox) ≡ true
   pub answer : ShownReply
   pub says : SaysTaking wide ahead identity turns answer
   pub crowded : is_crowded answer ≡ true
   pub same : s' ≡ s
 
 -- it does, or waits on, or nothing is said and nothing changes
-abbrev pub MayTakeNumber : Bool → Bool → List Turn → BuffersState → BuffersState → Type 0
-MayTakeNumber wide ahead turns s s' = ((turns ≡ []) × (s' ≡ s)) ⊎ TakesNumber wide ahead turns s s' ⊎ WaitsOn wide ahead turns s s'
+abbrev pub MayTakeNumber : Bool → Bool → Bool → List Turn → BuffersState → BuffersState → Type 0
+MayTakeNumber wide ahead patient turns s s' = ((turns ≡ []) × (s' ≡ s)) ⊎ TakesNumber wide ahead turns s s' ⊎ WaitsOn wide ahead patient turns s s'
 
 module _ {C : Type 0} (on : Seating C) where
   -- for which identity the connection at a seat takes a number
@@ -117,13 +119,13 @@ module _ {C : Type 0} (on : Seating C) where
     pub each : (i : ℕ) → IsAmong i keys → SeatGivenUp (get_or seats i None) (get_or seats' i None)
     pub others : (i : ℕ) → (IsAmong i keys → ⊥) → get_or seats' i None ≡ get_or seats i None
 
-module _ {C : Type 0} (on : Seating C) (wide ahead : Bool) where
+module _ {C : Type 0} (on : Seating C) (wide ahead patient : Bool) where
   -- by these turns a connection may take a number, and nothing is read or sent; an empty seat stays empty
   abbrev pub SeatTakesNumber : List Turn → Option C → Option C → Type 0
   SeatTakesNumber turns None None = turns ≡ []
   SeatTakesNumber turns None (Some c) = ⊥
   SeatTakesNumber turns (Some c) None = ⊥
-  SeatTakesNumber turns (Some c) (Some d) = MayTakeNumber wide ahead turns (on.buffers c) (on.buffers d) × (on.left d ≡ on.left c) × (on.gone d ≡ on.gone c)
+  SeatTakesNumber turns (Some c) (Some d) = MayTakeNumber wide ahead patient turns (on.buffers c) (on.buffers d) × (on.left d ≡ on.left c) × (on.gone d ≡ on.gone c)
 
   module _ {T : Type 0} (may : T → Request → ShownReply → T → Type 0) where
     -- the turns of all connections, in the one order of this log, lead the service from w to u, and those of each seat are what its connection took

@@ -553,7 +553,8 @@ impl<S: Stream, A: Allocator> Connection<S, A> {
     }
 
     /// Takes a number, where the line that waits first takes one and there is room for the answer: by events of the service, one after another, of
-    /// which the last reply is the answer (`say_taking`). Where those who are called are patient, one that is refused since all are held waits on.
+    /// which the last reply is the answer (`say_taking`). Where those who are called are patient, one that waits for seconds and is refused since all are
+    /// held waits on.
     pub fn take_number<R, D: Service<R>, B: Allocator>(
         &mut self,
         rt: &R,
@@ -564,10 +565,12 @@ impl<S: Stream, A: Allocator> Connection<S, A> {
     )
         requires knows { (q : Request) → D.knows q ≡ true }
         requires room { AreShared shared.old }
-        ensures takes { (turns : List Turn) × Runs D.may service.old turns service.new × MayTakeNumber wide ahead turns self.old.buffers self.new.buffers }
+        ensures takes { (turns : List Turn) × Runs D.may service.old turns service.new ×
+            MayTakeNumber wide ahead shared.old.patient turns self.old.buffers self.new.buffers }
         ensures stream { self.new.stream ≡ self.old.stream }
         ensures stage { self.new.stage ≡ ConnectionStage.Taken }
         ensures room { AreShared shared.new }
+        ensures patient { shared.new.patient ≡ shared.old.patient }
     {
         self.stage = ConnectionStage::Taken;
         if !self.may_take() {
@@ -575,7 +578,7 @@ impl<S: Stream, A: Allocator> Connection<S, A> {
         }
         if let Some((identity, count)) = self.buffers.taking() {
             let reply = say_taking(rt, service, &mut shared.view, identity, wide, ahead);
-            if shared.patient && is_crowded(&reply) {
+            if shared.patient && 0 < self.buffers.wait() && is_crowded(&reply) {
                 return;
             }
             print_reply(reply, &shared.view, &mut shared.replies);

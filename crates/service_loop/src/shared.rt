@@ -24,7 +24,7 @@ pub struct SharedBuffers<A: Allocator> {
     pub share: usize,
     /// Whether a connection that had its turn since `share_among` left something to wait, as a line that asks who holds numbers or takes one.
     pub waits: bool,
-    /// Whether those who take numbers wait on where all are held.
+    /// Whether those who take numbers, and wait for seconds, wait on where all are held.
     pub patient: bool,
 }
 

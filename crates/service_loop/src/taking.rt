@@ -132,10 +132,11 @@ fn take_number_at<R, D: Service<R>, S: Stream, A: Allocator, B: Allocator>(
     requires knows { (q : Request) → D.knows q ≡ true }
     requires room { AreShared shared.old }
     ensures took { ((service.new ≡ service.old) × (seats.new ≡ seats.old)) ⊎
-        ((turn : SeatTook (seats_of S.left S.gone) wide ahead D.may (λ c. c.stage ≡ ConnectionStage.Idle) key
+        ((turn : SeatTook (seats_of S.left S.gone) wide ahead shared.old.patient D.may (λ c. c.stage ≡ ConnectionStage.Idle) key
         service.old.service seats.old service.new.service seats.new) ×
         Hears (acts_of number turn.turns) service.old service.new) }
     ensures room { AreShared shared.new }
+    ensures patient { shared.new.patient ≡ shared.old.patient }
 {
     if key < seats.len() {
         if let Some(connection) = &mut seats[key] {
@@ -168,7 +169,8 @@ fn take_numbers<R, D: Service<R>, K: Persist<D>, S: Stream, A: Allocator, B: All
 )
     requires knows { (q : Request) → D.knows q ≡ true }
     requires room { AreShared shared.old }
-    ensures taken { (log : TurnLog) × NumbersTaken (seats_of S.left S.gone) wide ahead D.may service.old.service seats.old log service.new.service seats.new ×
+    ensures taken { (log : TurnLog) × NumbersTaken (seats_of S.left S.gone) wide ahead shared.old.patient D.may
+        service.old.service seats.old log service.new.service seats.new ×
         Hears (acts_in (number_at numbers.now) log) service.old service.new }
     ensures room { AreShared shared.new }
 {
@@ -209,7 +211,7 @@ pub fn serve_takings<R, D: Service<R>, K: Persist<D>, S: Stream, A: Allocator, B
 ) -> Result<(), K::Fault>
     requires knows { (q : Request) → D.knows q ≡ true }
     requires room { AreShared shared.old }
-    ensures turned { OnOk result ((turned : TakingsKept (seats_of S.left S.gone) wide ahead D.may K.persists
+    ensures turned { OnOk result ((turned : TakingsKept (seats_of S.left S.gone) wide ahead shared.old.patient D.may K.persists
         persister.old service.old.service seats.old persister.new service.new.service seats.new) ×
         Hears (acts_in (number_at numbers.now) turned.log) service.old service.new) }
     ensures unsent { OnErr result (NoneSent (seats_of S.left S.gone) seats.old seats.new) }
@@ -385,7 +387,7 @@ pub fn prefetch_takings<R, D: Service<R>, K: Persist<D>, S: Stream, A: Allocator
     requires knows { (q : Request) → D.knows q ≡ true }
     requires room { AreShared shared.old }
     ensures served { (count : ℕ) → result ≡ Ok (Called.Served count) →
-        (turned : TakingsPrefetched (seats_of S.left S.gone) wide true D.may K.prefetches K.persists
+        (turned : TakingsPrefetched (seats_of S.left S.gone) wide true shared.old.patient D.may K.prefetches K.persists
         persister.old service.old.service seats.old batch.new.lines.items persister.new service.new.service seats.new) ×
         Hears (acts_in (number_at numbers.now) turned.turn.log) service.old service.new }
     ensures unserved { (count : ℕ) → result ≡ Ok (Called.Unserved count) → Gathered (seats_of S.left S.gone) seats.old seats.new ×
