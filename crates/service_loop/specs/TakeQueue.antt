@@ -1,9 +1,13 @@
 -- those who wait for numbers at a server, in the order in which they came, and who of them is called (first come, first served)
-use Rattle.std.specs.Prelude.{◌≡◌, ◌⊎◌, ℕ, ◌==◌, ltb, leb, min, Bool, true, false, ◌&&◌, if◌then◌else◌, List, [], ◌∷◌, ◌++◌, map, filter, take, get_or, Option, Some, None}
+use Rattle.std.specs.Prelude.{◌≡◌, ◌⊎◌, ℕ, ◌==◌, ltb, leb, min, Bool, true, false, ◌&&◌, ◌||◌, if◌then◌else◌, List, [], ◌∷◌, ◌++◌, map, filter, take, get_or, Option, Some, None, is_some}
+use Rattle.model_pool.specs.Competitors.{stay_of}
+use Rattle.model_pool.specs.slots.SlotsState.{SlotsState}
 use Rattle.service_loop.specs.Attending.{number_at}
+use Rattle.service_loop.specs.Rooms.{room_in}
 use Rattle.service_loop.specs.Waiting.{first_wait, taken_for}
 use Rattle.service_loop.specs.declared.connection.Connection.{Connection}
 use Rattle.service_loop.specs.declared.take_line.TakeLine.{TakeLine}
+use Rattle.service_loop.specs.declared.take_queue.TakeQueue.{TakeQueue}
 use Rattle.service_loop.specs.declared.take_queue.Waiter.{Waiter}
 use Rattle.service_loop.specs.declared.take_queue.TheConstants.{MOST_CALLED}
 
@@ -24,6 +28,19 @@ waits_for id (Some line) = (line.identity == id) && ltb 0 line.seconds
 abbrev pub waits_on : {S A : Type 0} → List ℕ → List (Option (Connection S A)) → Waiter → Bool
 waits_on numbers seats w = (number_at numbers w.key == w.number) && waits_for w.identity (wish_of (get_or seats w.key None))
 
+-- these all do
+abbrev pub AllWaitOn : {S A : Type 0} → List ℕ → List (Option (Connection S A)) → List Waiter → Type 0
+AllWaitOn numbers seats waiters = filter (waits_on numbers seats) waiters ≡ waiters
+
+-- a number is taken, and the line is not to wait for one: it waits for no second, or is refused whatever is free
+abbrev pub asks_at_once : SlotsState ℕ → Option TakeLine → Bool
+asks_at_once state None = false
+asks_at_once state (Some line) = (line.seconds == 0) || ((line.identity == 0) || is_some (stay_of line.identity state.pool.competitors))
+
+-- those of these seats whose lines are so
+abbrev pub asking_of : {S A : Type 0} → SlotsState ℕ → List (Option (Connection S A)) → List ℕ → List ℕ
+asking_of state seats keys = filter (λ key. asks_at_once state (wish_of (get_or seats key None))) keys
+
 -- one waits no longer
 abbrev pub is_late : ℕ → Waiter → Bool
 is_late tick w = leb w.until tick
@@ -42,6 +59,15 @@ abbrev pub called_of : ℕ → ℕ → List Waiter → List ℕ → List ℕ
 called_of room tick waiters asking =
     if is_patient room waiters then seats_of_all (take (min room MOST_CALLED) waiters)
     else seats_of_all (filter (is_late tick) waiters) ++ asking
+
+-- In a round those leave the queue who wait no longer where they sat, and others who wait join behind. Those are called whose turn it is by the room that the
+-- pool has; of these seats those ask whose lines do not wait; and whether the called are patient is told
+pub record CallsInTurn {S A : Type 0} (state : SlotsState ℕ) (tick : ℕ) (numbers : List ℕ) (seats : List (Option (Connection S A))) (keys : List ℕ) (queue queue' : TakeQueue) (patient : Bool) : Type 0 where
+  pub joined : List Waiter
+  pub wait : AllWaitOn numbers seats joined
+  pub waiters_are : queue'.waiters.items ≡ filter (waits_on numbers seats) queue.waiters.items ++ joined
+  pub called_are : queue'.called.items ≡ called_of (room_in state) tick queue'.waiters.items (asking_of state seats keys)
+  pub patient_is : patient ≡ is_patient (room_in state) queue'.waiters.items
 
 -- those who are called came first: behind them stands the rest of those who wait, in its order
 abbrev pub AreFirst : List ℕ → List Waiter → Type 0

@@ -1,6 +1,6 @@
 //! A server in one thread, by the readiness of its sockets.
 
-ghost use Rattle.std.specs.Prelude.{◌≡◌, ◌⊎◌, ◌<◌, ◌≤◌, ◌+◌, ℕ, Bool, List, Option, true, not, OnOk};
+ghost use Rattle.std.specs.Prelude.{◌≡◌, ◌⊎◌, ◌<◌, ◌≤◌, ◌+◌, ℕ, Bool, List, Option, true, not, take, IfOk, OnOk};
 ghost use Rattle.model_asked.specs.Config.{is_wide};
 ghost use Rattle.model_asked.specs.Requests.{Request};
 ghost use Rattle.service_watch.specs.durations.Histogram.{capped};
@@ -11,6 +11,7 @@ ghost use Rattle.service_loop.specs.Releasing.{EndsDue};
 ghost use Rattle.service_loop.specs.SharedBuffers.{AreShared};
 ghost use Rattle.service_loop.specs.Rounds.{WasServed};
 ghost use Rattle.service_loop.specs.Sendings.{HasSent, SendsToKeepers, Unsent, hosted, sockets};
+ghost use Rattle.service_loop.specs.TakeQueue.{CallsInTurn};
 
 use crate::answering::answer_queries;
 use crate::attended::Attended;
@@ -667,6 +668,8 @@ impl Hosting {
         count: usize,
     ) -> Result<bool, AllocError>
         ensures same { self.new.connections ≡ self.old.connections }
+        ensures calls { IfOk result (CallsInTurn (K.holds persister.now service.now) self.old.tick
+            self.old.connections.numbers.items self.old.connections.seats.items (take count self.old.connections.ready.items) self.old.queue self.new.queue) }
     {
         let few = count.min(self.connections.ready.len());
         let seats = &self.connections.seats;

@@ -1,7 +1,7 @@
 //! Those who wait for numbers, in the order in which they came.
 
-ghost use Rattle.std.specs.Prelude.{◌≡◌, ◌++◌, List, [], filter, get_or, None, OnOk, IfOk};
-ghost use Rattle.service_loop.specs.TakeQueue.{called_of, is_late, is_patient, seats_of_all, waits_for, waits_on, wish_of};
+ghost use Rattle.std.specs.Prelude.{◌≡◌, ◌++◌, ◌∷◌, List, [], filter, get_or, None, Some, OnOk, IfOk};
+ghost use Rattle.service_loop.specs.TakeQueue.{AllWaitOn, asking_of, asks_at_once, called_of, is_late, is_patient, seats_of_all, waits_for, waits_on, wish_of};
 
 use crate::connection::Connection;
 use crate::persist::Persist;
@@ -59,6 +59,13 @@ fn waits_for(identity: u64, wish: Option<TakeLine>) -> bool
         Some(wish) => wish.identity == identity && 0 < wish.seconds,
         None => false,
     }
+}
+
+// Whether a number is taken by a line that is not to wait for one: it waits for no second, or is refused whatever is free.
+fn asks_at_once<D, K: Persist<D>>(service: &D, persister: &K, wish: TakeLine) -> bool
+    ensures { result ≡ asks_at_once (K.holds persister.now service.now) (Some wish) }
+{
+    wish.seconds == 0 || wish.identity == 0 || persister.has_stay(service, wish.identity)
 }
 
 // Whether one still waits where it sat.
@@ -151,16 +158,20 @@ impl TakeQueue {
         service: &D,
         persister: &K,
         seats: &[Option<Connection<S, A>>],
-        number: u64,
+        numbers: &[u64],
         key: usize,
         tick: u64,
     ) -> Result<(), AllocError>
-        ensures { OnOk result ((more : List Waiter) × (self.new.waiters.items ≡ self.old.waiters.items ++ more)) }
+        ensures joins { OnOk result ((more : List Waiter) × AllWaitOn numbers.now seats.now more ×
+            (self.new.waiters.items ≡ self.old.waiters.items ++ more)) }
+        ensures asks { OnOk result (self.new.asking.items ≡
+            self.old.asking.items ++ asking_of (K.holds persister.now service.now) seats.now (key ∷ [])) }
     {
+        let number = number_at(numbers, key);
         let Some(wish) = wish_at(seats, key) else {
             return Ok(());
         };
-        if wish.seconds == 0 || wish.identity == 0 || persister.has_stay(service, wish.identity) {
+        if asks_at_once(service, persister, wish) {
             self.asking.push(key)?;
         } else if !self.has(number) {
             self.waiters.push(Waiter {
@@ -173,7 +184,8 @@ impl TakeQueue {
         Ok(())
     }
 
-    /// Notes who takes a number at these seats. Those who wait join behind all others, each once. Nobody waits whose identity is 0 or competes already.
+    /// Notes who takes a number at these seats. Those who wait join behind all others, each once. Nobody waits whose identity is 0 or competes already: those
+    /// ask at once, as they do whose lines wait for no second.
     ///
     /// # Errors
     ///
@@ -187,11 +199,13 @@ impl TakeQueue {
         ready: &[usize],
         tick: u64,
     ) -> Result<(), AllocError>
-        ensures { OnOk result ((more : List Waiter) × (self.new.waiters.items ≡ self.old.waiters.items ++ more)) }
+        ensures joins { OnOk result ((more : List Waiter) × AllWaitOn numbers.now seats.now more ×
+            (self.new.waiters.items ≡ self.old.waiters.items ++ more)) }
+        ensures asks { OnOk result (self.new.asking.items ≡ asking_of (K.holds persister.now service.now) seats.now ready.now) }
     {
+        self.asking.clear();
         for key in ready {
-            let number = number_at(numbers, *key);
-            self.note_at(service, persister, seats, number, *key, tick)?;
+            self.note_at(service, persister, seats, numbers, *key, tick)?;
         }
         Ok(())
     }
@@ -216,7 +230,6 @@ impl TakeQueue {
             add_late(&self.waiters, tick, &mut self.called)?;
             self.called.extend_from_slice(&self.asking)?;
         }
-        self.asking.clear();
         Ok(patient)
     }
 }
