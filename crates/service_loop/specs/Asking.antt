@@ -1,6 +1,6 @@
 -- lines that a server answers by itself, among what waits of a connection: those that ask who holds numbers or the terms, and those that take a
 -- number
-use Rattle.std.specs.Prelude.{◌≡◌, ◌⊎◌, ◌≤◌, ◌<◌, ℕ, ◌++◌, ◌||◌, not, Bool, List, [], length, take, drop, get_or, suc, true, false, Option, Some, None, is_some}
+use Rattle.std.specs.Prelude.{◌≡◌, ◌⊎◌, ◌≤◌, ◌<◌, ℕ, ◌++◌, ◌||◌, not, Bool, List, [], length, take, drop, get_or, suc, true, false, Option, Some, is_some}
 use Rattle.std.specs.List.{list_all}
 use Rattle.text_lines.specs.Lines.{has_no_lf, rest_of, whole_lines}
 use Rattle.text_lines.specs.declared.held.query.TheConstants.{QUERY_MAX}

@@ -1,9 +1,8 @@
 use borrow.Author.Rules.{scaled_Fits}
 use Rattle.std.proofs.lemmas.List.{set-get_or, get_or_past}
-use Rattle.std.proofs.Common.{◌≡◌, ◌∙◌, inr, Some, None, sym, inl, refl, subst, set, ap, get_or}
-use Rattle.service_loop.proofs.Common.{get_or_default, get_or-set_same, get_or-set_other, SeatIs, seats_of}
+use Rattle.std.proofs.Common.{◌≡◌, ◌∙◌, inr, Some, None, sym, inl, refl, subst, set}
+use Rattle.service_loop.proofs.Common.{get_or_default, get_or-set_same, SeatIs, seats_of}
 use Rattle.service_loop.specs.declared.connection.ConnectionStage.TheVariants as stage
-use Rattle.service_loop.specs.SharedBuffers.{AreShared}
 use Rattle.service_loop.proofs.ReportedLemmas.{seat_turn_peeked}
 use Rattle.service_loop.proofs.SeatLemmas.{seat_waits}
 use Rattle.service_loop.proofs.AttendedLemmas.{runs_listened}
@@ -27,20 +26,8 @@ returns-in-Queued-clause-done g c =
     subst (λ x. SeatIs (λ q. q.stage ≡ stage.Queued → ⊥) x) (sym (get_or-set_same c.args.seats.now c.args.key (Some c.take_peeked.new.self) None c.if-key-seats.true))
     (λ again. (let e : stage.Taken ≡ stage.Queued = sym c.take_peeked.ensures.stage ∙ again in absurd cc))
 
-pub returns-in-Queued-clause-others : goal.returns-in-Queued-clause-others
-returns-in-Queued-clause-others g c = λ i other. get_or-set_other c.args.seats.now c.args.key i (Some c.take_peeked.new.self) None other
-
 pub offset_bounds-seats-key : goal.offset_bounds-seats-key
 offset_bounds-seats-key g c = scaled_Fits _ _ _ c.if-key-seats.true c.well_formed.1.1.1.0.1
-
-pub bounds-seats-key : goal.bounds-seats-key
-bounds-seats-key g c = c.if-key-seats.true
-
-pub take_peeked-requires : goal.take_peeked-requires
-take_peeked-requires g c = record { knows = c.requires.knows; room = c.requires.room }
-
-pub returns-in-Queued-clause-room : goal.returns-in-Queued-clause-room
-returns-in-Queued-clause-room g c = subst (λ s. AreShared s) (sym c.note_turn.ensures) c.take_peeked.ensures.room
 
 pub returns-else-key-seats : goal.returns-else-key-seats
 returns-else-key-seats g c =

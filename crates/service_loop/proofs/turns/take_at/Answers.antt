@@ -1,9 +1,8 @@
 use borrow.Author.Rules.{scaled_Fits}
 use Rattle.std.proofs.lemmas.List.{set-get_or, get_or_past}
-use Rattle.std.proofs.Common.{◌≡◌, ◌∙◌, inr, Some, None, sym, inl, refl, subst, set, ap, get_or}
-use Rattle.service_loop.proofs.Common.{get_or_default, get_or-set_same, get_or-set_other, SeatIs, seats_of}
+use Rattle.std.proofs.Common.{◌≡◌, ◌∙◌, inr, Some, None, sym, inl, refl, subst, set}
+use Rattle.service_loop.proofs.Common.{get_or_default, get_or-set_same, SeatIs, seats_of}
 use Rattle.service_loop.specs.declared.connection.ConnectionStage.TheVariants as stage
-use Rattle.service_loop.specs.SharedBuffers.{AreShared}
 use Rattle.service_loop.proofs.SeatLemmas.{seat_took, seat_waits}
 use Rattle.service_loop.specs.ConnectionBuffers.{HasTakenAll}
 use Rattle.service_loop.proofs.AttendedLemmas.{runs_listened}
@@ -30,20 +29,8 @@ pub returns-in-Queued-clause-all : goal.returns-in-Queued-clause-all
 returns-in-Queued-clause-all g c =
     inr (subst (λ x. SeatIs (λ q. HasTakenAll q.buffers) x) (sym (get_or-set_same c.args.seats.now c.args.key (Some c.take.new.self) None c.if-key-seats.true)) c.take.ensures.all)
 
-pub returns-in-Queued-clause-others : goal.returns-in-Queued-clause-others
-returns-in-Queued-clause-others g c = λ i other. get_or-set_other c.args.seats.now c.args.key i (Some c.take.new.self) None other
-
 pub offset_bounds-seats-key : goal.offset_bounds-seats-key
 offset_bounds-seats-key g c = scaled_Fits _ _ _ c.if-key-seats.true c.well_formed.1.1.1.0.1
-
-pub bounds-seats-key : goal.bounds-seats-key
-bounds-seats-key g c = c.if-key-seats.true
-
-pub take-requires : goal.take-requires
-take-requires g c = record { knows = c.requires.knows; room = c.requires.room }
-
-pub returns-in-Queued-clause-room : goal.returns-in-Queued-clause-room
-returns-in-Queued-clause-room g c = subst (λ s. AreShared s) (sym c.note_turn.ensures) c.take.ensures.room
 
 pub returns-else-key-seats : goal.returns-else-key-seats
 returns-else-key-seats g c =
