@@ -27,21 +27,6 @@ fn put_person(form: Form, desk: &Desk<Global>, id: u64, out: &mut Text) -> Resul
     out.put(form.end())
 }
 
-/// Appends where each of these stands.
-fn put_people(
-    form: Form,
-    desk: &Desk<Global>,
-    ids: &[u64],
-    out: &mut Text,
-) -> Result<(), AllocError>
-    ensures { OnOk result (out.new ≡ out.old ++ flat_map (person form desk.now) ids.now) }
-{
-    for id in ids {
-        put_person(form, desk, *id, out)?;
-    }
-    Ok(())
-}
-
 /// Appends where a competitor stands who has not begun.
 fn put_stranger(
     form: Form,
@@ -185,8 +170,10 @@ pub(crate) fn put_state(
 ) -> Result<(), AllocError>
     ensures { OnOk result (out.new ≡ out.old ++ state form desk.now begun.now reached.now) }
 {
+    for id in begun {
+        put_person(form, desk, *id, out)?;
+    }
     let slots = desk.slots();
-    put_people(form, desk, begun, out)?;
     let Ok(competitors) = slots.pool().competitors(alloc) else {
         return Err(AllocError);
     };
