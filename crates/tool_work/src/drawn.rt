@@ -8,7 +8,7 @@
 //! there are, and that they run at the same time.
 //!
 //! What is proved: `draw_schedule` writes exactly the text of the generator's words (`ok`; `part` at a fault). Each
-//! line of `play_schedules` has the three numbers of a run of its schedule (`ok`; `part` at a fault). That is the run
+//! line of `play_schedules` has the three numbers of a run of its schedule (`HasDrawnInto`). That is the run
 //! of the configuration's desk if no allocation fails. The memory of a run is in an arena that is reset before the
 //! next.
 //!

@@ -1,10 +1,13 @@
 -- runs of drawn schedules, and what is reported of them
-use Rattle.std.specs.Prelude.{◌≡◌, ◌≢◌, ℕ, ◌+◌, ◌%◌, ◌^◌, ◌<◌, ◌≤◌, List, [], ◌∷◌, ◌++◌, map, length, codes, decimal, slice_index_or, ◌⊎◌, Option, IfSome, Result, Err, IfErr, OnOk}
+use Rattle.std.specs.Prelude.{◌≡◌, ◌≢◌, ℕ, ◌+◌, ◌%◌, ◌^◌, ◌<◌, ◌≤◌, List, [], ◌∷◌, ◌++◌, map, length, codes, decimal, slice_index_or, ◌⊎◌, Option, IfSome, Result, true, Err, IfErr, OnOk, OnErr}
+use Rattle.std.specs.Io.KnownBytes.{Appends}
 use Rattle.model_steps.specs.declared.refusal.Refusal.TheVariants as refusal
+use Rattle.model_asked.specs.Config.{gives_names}
 use Rattle.model_asked.specs.declared.config.Config.{Config}
 use Rattle.model_asked.specs.declared.event.Event.{Event}
 use Rattle.model_asked.specs.declared.exchange.Exchange.{Exchange}
 use Rattle.model_asked.specs.declared.reply.Reply.TheVariants as reply
+use Rattle.text_player.specs.Played.{Writing}
 use Rattle.text_worlds.specs.desk.Desk.{IsAfterDesk}
 use Rattle.text_worlds.specs.desk.DeskCalls.{DeskCall, exchange_of}
 use Rattle.text_worlds.specs.desk.DeskRun.{IsDeskRunOf}
@@ -89,3 +92,16 @@ pub record TellsWrites (before now : ℕ) (result : Result (Unit {0}) Fault) : T
   pub failed : result ≡ Err Write → before < now
   pub memory : result ≡ Err Memory → now ≡ before
   pub unfailed : OnOk result (now ≡ before)
+
+-- schedules of so many steps may be played over this config: it gives names, no count of calls overflows, and the writer's count of calls is one of 64 bits
+pub record MayBeDrawn (config : Config) (n calls : ℕ) : Type 0 where
+  pub names : gives_names config.world ≡ true
+  pub steps : n + 64 < 2 ^ 64
+  pub writes : calls < 2 ^ 64
+
+-- Lines of so many runs were written: of all of them, where all went well. At a fault the writer has gained a prefix of the lines of the first of them. The
+-- result tells of the writes
+pub record HasDrawnInto {W : Type 0} (config : Config) (seed ids n count : ℕ) (writing : Writing W) (result : Result (Unit {0}) Fault) : Type 0 where
+  pub ok : OnOk result (HasDrawn config seed ids n count (Appends (writing.contents writing.old) (writing.contents writing.new)))
+  pub part : OnErr result (HasDrawnPart config seed ids n count (writing.contents writing.old) (writing.contents writing.new))
+  pub told : TellsWrites (writing.failed writing.old) (writing.failed writing.new) result

@@ -1,11 +1,11 @@
 //! Schedules and runs by plain numbers, for callers that have no `Schedule`.
 
-ghost use Rattle.std.specs.Prelude.{◌≡◌, ◌<◌, ◌≤◌, ◌+◌, ◌^◌, ◌⊎◌, true, Err, IfErr, OnOk, OnErr};
+ghost use Rattle.std.specs.Prelude.{◌≡◌, ◌<◌, ◌≤◌, ◌+◌, ◌^◌, ◌⊎◌, true, Err, IfErr, OnOk};
 ghost use Rattle.std.specs.Io.KnownBytes.{Appends};
-ghost use Rattle.model_asked.specs.Config.{gives_names};
 ghost use Rattle.text_lines.specs.Events.{event_lines};
 ghost use Rattle.text_lines.specs.Written.{HasPartOf};
-ghost use Rattle.tool_work.specs.drawn.Runs.{HasDrawn, HasDrawnPart, TellsWrites};
+ghost use Rattle.text_player.specs.Played.{writing};
+ghost use Rattle.tool_work.specs.drawn.Runs.{HasDrawnInto, MayBeDrawn};
 ghost use Rattle.tool_work.specs.drawn.Schedule.{schedule};
 
 use crate::drawn::runs::play_schedules;
@@ -56,12 +56,8 @@ pub fn play_drawn<A: Allocator + Clone, W: Sink>(
     writer: &mut W,
 ) -> Result<(), Fault>
     requires ids { (1 ≤ ids) × (ids ≤ 64) }
-    requires names { gives_names config.world ≡ true }
-    requires steps { steps + 64 < 2 ^ 64 }
-    requires writes { W.calls writer.old < 2 ^ 64 }
-    ensures ok { OnOk result (HasDrawn config seed ids steps runs (Appends (W.contents writer.old) (W.contents writer.new))) }
-    ensures part { OnErr result (HasDrawnPart config seed ids steps runs (W.contents writer.old) (W.contents writer.new)) }
-    ensures told { TellsWrites (W.failed writer.old) (W.failed writer.new) result }
+    requires drawn { MayBeDrawn config steps (W.calls writer.old) }
+    ensures { HasDrawnInto config seed ids steps runs (writing W.contents W.failed writer.old writer.new) result }
 {
     play_schedules(alloc, Schedule { seed, ids, steps }, runs, config, writer)
 }

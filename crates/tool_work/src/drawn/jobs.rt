@@ -1,9 +1,9 @@
 //! Drawn runs by many threads.
 
-ghost use Rattle.std.specs.Prelude.{◌≡◌, ◌<◌, ◌≤◌, ◌+◌, ◌^◌, ℕ, Option, true, length, slice_index_or, OnOk, OnErr};
-ghost use Rattle.std.specs.Io.KnownBytes.{Appends};
+ghost use Rattle.std.specs.Prelude.{◌≡◌, ◌<◌, ◌≤◌, ◌+◌, ◌^◌, ℕ, Option, true, length, slice_index_or};
 ghost use Rattle.model_asked.specs.Config.{gives_names};
-ghost use Rattle.tool_work.specs.drawn.Runs.{HasDrawn, HasDrawnPart, IsReportedOf, TellsWrites};
+ghost use Rattle.text_player.specs.Played.{writing};
+ghost use Rattle.tool_work.specs.drawn.Runs.{HasDrawnInto, IsReportedOf, MayBeDrawn};
 ghost use Rattle.tool_work.specs.declared.drawn.tally.Tally.{Tally};
 
 use crate::drawn::runs::{play_schedules, play_share, write_tallies};
@@ -75,12 +75,8 @@ pub fn play_drawn_by<R: Threads + Sync, W: Sink>(
     config: Config,
     writer: &mut W,
 ) -> Result<(), Fault>
-    requires names { gives_names config.world ≡ true }
-    requires steps { plan.steps + 64 < 2 ^ 64 }
-    requires writes { W.calls writer.old < 2 ^ 64 }
-    ensures ok { OnOk result (HasDrawn config plan.seed plan.ids plan.steps runs (Appends (W.contents writer.old) (W.contents writer.new))) }
-    ensures part { OnErr result (HasDrawnPart config plan.seed plan.ids plan.steps runs (W.contents writer.old) (W.contents writer.new)) }
-    ensures told { TellsWrites (W.failed writer.old) (W.failed writer.new) result }
+    requires { MayBeDrawn config plan.steps (W.calls writer.old) }
+    ensures { HasDrawnInto config plan.seed plan.ids plan.steps runs (writing W.contents W.failed writer.old writer.new) result }
 {
     let jobs = jobs_for(rt, jobs);
     if jobs == 1 {

@@ -5,9 +5,10 @@ ghost use Rattle.std.specs.Io.KnownBytes.{Appends};
 ghost use Rattle.model_asked.specs.declared.config.Config.{Config};
 ghost use Rattle.model_asked.specs.declared.exchange.Exchange.{Exchange};
 ghost use Rattle.model_asked.specs.Config.{gives_names};
+ghost use Rattle.text_player.specs.Played.{writing};
 ghost use Rattle.text_worlds.specs.desk.Desk.{IsFreshDesk};
 ghost use Rattle.tool_work.specs.drawn.Schedule.{begins_from, opened, steps_drawn};
-ghost use Rattle.tool_work.specs.drawn.Runs.{AreReported, HasDrawn, HasDrawnPart, IsDrawnRun, IsReportedOf, PlaysFrom, TellsWrites, numbers_line};
+ghost use Rattle.tool_work.specs.drawn.Runs.{AreReported, HasDrawn, HasDrawnInto, HasDrawnPart, IsDrawnRun, IsReportedOf, MayBeDrawn, PlaysFrom, TellsWrites, numbers_line};
 ghost use Rattle.tool_work.specs.drawn.Tally.{IsTallyOf};
 ghost use Rattle.tool_work.specs.declared.drawn.tally.Tally.{Tally};
 
@@ -172,12 +173,8 @@ pub fn play_schedules<A: Allocator + Clone, W: Sink>(
     config: Config,
     writer: &mut W,
 ) -> Result<(), Fault>
-    requires names { gives_names config.world ≡ true }
-    requires steps { plan.steps + 64 < 2 ^ 64 }
-    requires writes { W.calls writer.old < 2 ^ 64 }
-    ensures ok { OnOk result (HasDrawn config plan.seed plan.ids plan.steps runs (Appends (W.contents writer.old) (W.contents writer.new))) }
-    ensures part { OnErr result (HasDrawnPart config plan.seed plan.ids plan.steps runs (W.contents writer.old) (W.contents writer.new)) }
-    ensures told { TellsWrites (W.failed writer.old) (W.failed writer.new) result }
+    requires { MayBeDrawn config plan.steps (W.calls writer.old) }
+    ensures { HasDrawnInto config plan.seed plan.ids plan.steps runs (writing W.contents W.failed writer.old writer.new) result }
 {
     let Ok(other) = alloc.clone() else {
         return Err(Fault::Memory);
