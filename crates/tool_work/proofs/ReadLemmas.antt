@@ -1,8 +1,11 @@
 -- what was read of an input
-use Rattle.std.proofs.Common.{◌≢◌, ◌∙◌, ◌++◌, inl, inr, ap, subst, ℕ, List, Option, Some, None}
+use Rattle.std.proofs.Common.{◌≡◌, ◌≢◌, ◌∙◌, ◌++◌, ◌+◌, ◌≤◌, inl, inr, ap, refl, subst, ℕ, List, Option, Some, None, Ok, Err}
 use Rattle.tool_work.proofs.Common.{append-nil, Verdict, NoMemory}
 use Rattle.std.specs.Io.KnownBytes.{Consumes, IsAtEnd}
-use Rattle.text_player.specs.Played.{IsInput}
+use Rattle.text_lines.specs.declared.fault.Fault.TheVariants.{Read, Memory}
+use Rattle.text_player.specs.Played.{IsInput, Reading}
+use Rattle.text_player.specs.declared.playing.TheConstants.{MOST_READS}
+use Rattle.tool_work.specs.Checked.{HasFailedRead, HasReadTo}
 use Rattle.text_checker.specs.declared.judge.Judge.{Judge}
 use Rattle.text_checker.specs.Stages.{HasTakenAll}
 use Rattle.text_checker.specs.Verdict.{IsSaid, IsSaidOfRows}
@@ -23,3 +26,14 @@ pub record HasReadAndTaken (had left : Option (List ℕ)) (j : Judge) : Type 0 w
 pub said_some : (lines : List (List ℕ)) (v : Verdict) → IsSaid lines v → v ≢ NoMemory
 said_some lines v (inl s) = λ none. subst (IsSaidOfRows s.header s.rows) none s.said
 said_some lines v (inr bad) = λ none. (let e = bad.0 in cc)
+
+module _ {R V : Type 0} (reading : Reading R) (Made : Reading R → V → Type 0) where
+  -- what was read to its end, and what was not
+  pub read_to : (v : V) → Made reading v → reading.calls reading.new ≤ reading.calls reading.old + MOST_READS → HasReadTo reading Made (Ok v)
+  read_to v made few = record { ok = made; read_fault = λ fault. absurd cc; memory = λ fault. absurd cc; only = tt; reads = few }
+
+  pub read_failed : HasFailedRead reading → reading.calls reading.new ≤ reading.calls reading.old + MOST_READS → HasReadTo reading Made (Err Read)
+  read_failed failed few = record { ok = tt; read_fault = λ _. failed; memory = λ fault. absurd cc; only = inl refl; reads = few }
+
+  pub read_lacked : reading.failed reading.new ≡ reading.failed reading.old → reading.calls reading.new ≤ reading.calls reading.old + MOST_READS → HasReadTo reading Made (Err Memory)
+  read_lacked well few = record { ok = tt; read_fault = λ fault. absurd cc; memory = λ _. well; only = inr refl; reads = few }

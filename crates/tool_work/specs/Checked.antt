@@ -1,5 +1,5 @@
 -- what is reported of a record that a reader gives
-use Rattle.std.specs.Prelude.{◌≡◌, ◌≢◌, ◌⊎◌, ◌+◌, ◌<◌, ◌≤◌, ◌++◌, ◌∷◌, ℕ, List, [], Result, Err, IfOk, codes, decimal}
+use Rattle.std.specs.Prelude.{◌≡◌, ◌≢◌, ◌⊎◌, ◌+◌, ◌<◌, ◌≤◌, ◌++◌, ◌∷◌, ◌^◌, ℕ, List, [], length, Result, Err, IfOk, IfErr, codes, decimal}
 use Rattle.std.specs.Io.KnownBytes.{Appends, Consumes}
 use Rattle.text_checker.specs.Migrated.{IsMigratedTo}
 use Rattle.text_checker.specs.Reasons.{reason_number}
@@ -10,7 +10,7 @@ use Rattle.text_lines.specs.Written.{HasPartOf}
 use Rattle.text_lines.specs.declared.fault.Fault.{Fault}
 use Rattle.text_lines.specs.declared.fault.Fault.TheVariants.{Read, Write, Memory}
 use Rattle.text_player.specs.Played.{Reading, Writing, IsInput}
-use Rattle.text_player.specs.declared.playing.TheConstants.{MOST_READS}
+use Rattle.text_player.specs.declared.playing.TheConstants.{MOST_READS, READ_BYTES}
 
 -- the line of a verdict; an allocation failure has none
 abbrev pub verdict_text : Verdict → List ℕ
@@ -42,6 +42,20 @@ pub record IsJudgedWhole {R : Type 0} (reading : Reading R) (v : Verdict) : Type
 -- one read failed, or the limit of reads was reached
 abbrev pub HasFailedRead : {R : Type 0} → Reading R → Type 0
 HasFailedRead reading = (reading.failed reading.new ≡ reading.failed reading.old + 1) ⊎ ((reading.calls reading.new ≡ reading.calls reading.old + MOST_READS) × (reading.failed reading.new ≡ reading.failed reading.old))
+
+-- a reader that was called so often may be read by way of such a chunk: its count is one of 64 bits, and the chunk has the bytes of one read
+pub record MayRead (calls : ℕ) (bytes : List ℕ) : Type 0 where
+  pub reads : calls < 2 ^ 64
+  pub chunk : length bytes ≡ READ_BYTES
+
+-- A reader was read to its end, and this is so of what was made of that; or a read failed; or an allocation, and no read. It was read as often as the limit
+-- says, at most
+pub record HasReadTo {R V : Type 0} (reading : Reading R) (Made : Reading R → V → Type 0) (result : Result V Fault) : Type 0 where
+  pub ok : IfOk result (Made reading)
+  pub read_fault : result ≡ Err Read → HasFailedRead reading
+  pub memory : result ≡ Err Memory → reading.failed reading.new ≡ reading.failed reading.old
+  pub only : IfErr result (λ fault. (fault ≡ Read) ⊎ (fault ≡ Memory))
+  pub reads : reading.calls reading.new ≤ reading.calls reading.old + MOST_READS
 
 -- what is reported of an input with this verdict: its line
 abbrev pub IsVerdictText : List ℕ → Verdict → List ℕ → Type 0

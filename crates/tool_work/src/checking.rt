@@ -1,9 +1,9 @@
 //! The check of a record that a reader gives.
 
-ghost use Rattle.std.specs.Prelude.{◌≡◌, ◌⊎◌, ◌+◌, ◌^◌, ◌<◌, ◌≤◌, IfOk, IfErr, Err, [], length};
+ghost use Rattle.std.specs.Prelude.{◌≡◌, ◌^◌, ◌<◌, []};
 ghost use Rattle.text_player.specs.Played.{reading, writing};
 ghost use Rattle.text_checker.specs.declared.verdict.Verdict.{Verdict};
-ghost use Rattle.tool_work.specs.Checked.{HasFailedRead, IsChecked, IsJudgedWhole, IsWhole, verdict_status, verdict_text};
+ghost use Rattle.tool_work.specs.Checked.{HasReadTo, IsChecked, IsJudgedWhole, IsWhole, MayRead, verdict_status, verdict_text};
 
 use std::alloc::{Allocator, Global};
 use text_checker::{Judge, Verdict};
@@ -21,13 +21,8 @@ pub fn read_whole<R: Source>(
     reader: &mut R,
     chunk: &mut [u8],
 ) -> Result<Vec<u8>, Fault>
-    requires reads { R.calls reader.old < 2 ^ 64 }
-    requires chunk { length chunk.old ≡ READ_BYTES }
-    ensures whole { IfOk result (λ bytes. IsWhole (reading R.remaining R.calls R.failed reader.old reader.new) bytes.items) }
-    ensures read_fault { result ≡ Err Fault.Read → HasFailedRead (reading R.remaining R.calls R.failed reader.old reader.new) }
-    ensures memory { result ≡ Err Fault.Memory → R.failed reader.new ≡ R.failed reader.old }
-    ensures only { IfErr result (λ fault. (fault ≡ Fault.Read) ⊎ (fault ≡ Fault.Memory)) }
-    ensures reads { R.calls reader.new ≤ R.calls reader.old + MOST_READS }
+    requires { MayRead (R.calls reader.old) chunk.old }
+    ensures { HasReadTo (reading R.remaining R.calls R.failed reader.old reader.new) (λ reads bytes. IsWhole reads bytes.items) result }
 {
     let mut bytes = Vec::new(alloc);
     for _reads in 0..MOST_READS {
@@ -57,13 +52,8 @@ pub fn judge_whole<R: Source>(
     reader: &mut R,
     chunk: &mut [u8],
 ) -> Result<Verdict, Fault>
-    requires reads { R.calls reader.old < 2 ^ 64 }
-    requires chunk { length chunk.old ≡ READ_BYTES }
-    ensures judged { IfOk result (λ v. IsJudgedWhole (reading R.remaining R.calls R.failed reader.old reader.new) v) }
-    ensures read_fault { result ≡ Err Fault.Read → HasFailedRead (reading R.remaining R.calls R.failed reader.old reader.new) }
-    ensures memory { result ≡ Err Fault.Memory → R.failed reader.new ≡ R.failed reader.old }
-    ensures only { IfErr result (λ fault. (fault ≡ Fault.Read) ⊎ (fault ≡ Fault.Memory)) }
-    ensures reads { R.calls reader.new ≤ R.calls reader.old + MOST_READS }
+    requires { MayRead (R.calls reader.old) chunk.old }
+    ensures { HasReadTo (reading R.remaining R.calls R.failed reader.old reader.new) (λ reads verdict. IsJudgedWhole reads verdict) result }
 {
     let mut judge = Judge::new(alloc);
     for _reads in 0..MOST_READS {

@@ -19,10 +19,10 @@ returns-in_err-put_all g c =
     half_reported IsVerdictText (reading g.R.Read.remaining g.R.Source.calls g.R.Source.failed c.args.reader.now c.judge_whole.new.reader) (writing g.W.Write.contents g.W.Sink.failed c.args.writer.now c.put_all.new.writer) c.judge_whole.ensures.reads
     c.from_residual-in_err-put_all.result c.in_err-put_all.field-0.0 (fault.1 ∙ ap Err fault.2) c.in_err-put_all.ensures.only c.in_err-put_all.ensures.failed c.in_ok-verdict.verdict
     (record {
-      input = c.in_ok-verdict.ensures.judged.input;
-      whole = c.in_ok-verdict.ensures.judged.whole;
-      verdict = c.in_ok-verdict.ensures.judged.verdict;
-      some = c.in_ok-verdict.ensures.judged.some;
+      input = c.in_ok-verdict.ensures.ok.input;
+      whole = c.in_ok-verdict.ensures.ok.whole;
+      verdict = c.in_ok-verdict.ensures.ok.verdict;
+      some = c.in_ok-verdict.ensures.ok.some;
       text = verdict_text c.in_ok-verdict.verdict;
       tells = refl;
       wrote = subst (λ (t : List ℕ). HasPartOf (g.W.Write.contents c.args.writer.now) (g.W.Write.contents c.put_all.new.writer) t) text c.in_err-put_all.ensures.err;
@@ -34,10 +34,10 @@ returns g c =
     let writes = writing g.W.Write.contents g.W.Sink.failed c.args.writer.now c.put_all.new.writer in
     let text = c.as_slice.ensures ∙ c.put_verdict.ensures in
     all_reported IsVerdictText reads writes c.judge_whole.ensures.reads c.status_of.result c.in_ok-verdict.verdict c.status_of.ensures (record {
-      input = c.in_ok-verdict.ensures.judged.input;
-      whole = c.in_ok-verdict.ensures.judged.whole;
-      verdict = c.in_ok-verdict.ensures.judged.verdict;
-      some = c.in_ok-verdict.ensures.judged.some;
+      input = c.in_ok-verdict.ensures.ok.input;
+      whole = c.in_ok-verdict.ensures.ok.whole;
+      verdict = c.in_ok-verdict.ensures.ok.verdict;
+      some = c.in_ok-verdict.ensures.ok.some;
       text = verdict_text c.in_ok-verdict.verdict;
       tells = refl;
       wrote = subst (λ (t : List ℕ). Appends (g.W.Write.contents c.args.writer.now) (g.W.Write.contents c.put_all.new.writer) t) text c.in_ok-put_all.ensures.ok;

@@ -1,7 +1,7 @@
-use Rattle.std.proofs.Common.{◌++◌, [], inl, arith, refl, take, subst, ℕ}
+use Rattle.std.proofs.Common.{◌++◌, [], inl, inr, arith, refl, take, subst, ℕ}
 use Rattle.tool_work.proofs.Common.{append-nil, Consumes, Consumes-nil, Consumes-trans}
 use Rattle.text_records.specs.Records.{record_lines}
-use Rattle.tool_work.proofs.ReadLemmas.{read_all, said_some}
+use Rattle.tool_work.proofs.ReadLemmas.{read_all, read_failed, read_lacked, read_to, said_some}
 use Rattle.tool_work.proofs.checking.judge_whole.Goals as goal
 
 pub loop-reads-init : goal.loop-reads-init
@@ -27,8 +27,28 @@ loop-reads-preserved g c =
       no_read_failed = (let failed = c.in-Ok.ensures.failed in let before = inv.no_read_failed in omega arith);
     }
 
-pub returns-in-Ok-verdict-clause-judged : goal.returns-in-Ok-verdict-clause-judged
-returns-in-Ok-verdict-clause-judged g c =
+pub returns-in-Err : goal.returns-in-Err
+returns-in-Err g c =
+    let inv = c.loop-reads.invariant in
+    read_failed _ _ (inl (let failed = c.in-Err.ensures.failed in let before = inv.no_read_failed in omega arith)) (let called = c.in-Err.ensures.called in let before = inv.reads in let more = c.loop-reads-test.true in omega arith)
+
+pub returns-in-Err-verdict : goal.returns-in-Err-verdict
+returns-in-Err-verdict g c =
+    let inv = c.loop-reads.invariant in
+    read_lacked _ _ (let failed = c.in-Ok.ensures.failed in let before = inv.no_read_failed in omega arith) (let called = c.in-Ok.ensures.called in let before = inv.reads in let more = c.loop-reads-test.true in omega arith)
+
+pub returns-in-Err-take : goal.returns-in-Err-take
+returns-in-Err-take g c =
+    let inv = c.loop-reads.invariant in
+    read_lacked _ _ (let failed = c.in-Ok.ensures.failed in let before = inv.no_read_failed in omega arith) (let called = c.in-Ok.ensures.called in let before = inv.reads in let more = c.loop-reads-test.true in omega arith)
+
+pub returns : goal.returns
+returns g c =
+    let inv = c.loop-reads.invariant in
+    read_failed _ _ (inr (let before = inv.reads in omega arith, inv.no_read_failed)) (let before = inv.reads in omega arith)
+
+pub returns-in-Ok-verdict : goal.returns-in-Ok-verdict
+returns-in-Ok-verdict g c =
     let inv = c.loop-reads.invariant in
     let had = g.R.Read.remaining c.args.reader.now in
     let mid = g.R.Read.remaining c.loop-reads.reader in
@@ -37,7 +57,7 @@ returns-in-Ok-verdict-clause-judged g c =
     let none : Consumes mid left [] = subst (λ (n : ℕ). Consumes mid left (take n c.read_once.new.buf)) c.if-count-eq0.true c.in-Ok.ensures.bytes.0 in
     let came : Consumes had left seen = rw append-nil at (Consumes-trans had mid left seen [] inv.came.came none) in
     let said = c.in-Ok-verdict.ensures seen inv.came.taken in
-    record {
+    read_to _ _ c.in-Ok-verdict.verdict (record {
       input = seen;
       whole = record {
         all = read_all had left seen came (c.in-Ok.ensures.bytes.1 c.if-count-eq0.true (omega (arith, c.read_once.auto.buf, inv.chunk)));
@@ -46,4 +66,4 @@ returns-in-Ok-verdict-clause-judged g c =
       };
       verdict = inl said;
       some = said_some (record_lines seen) c.in-Ok-verdict.verdict said;
-    }
+    }) (let called = c.in-Ok.ensures.called in let before = inv.reads in let more = c.loop-reads-test.true in omega arith)

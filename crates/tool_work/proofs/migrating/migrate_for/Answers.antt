@@ -22,7 +22,7 @@ returns-in_err-verdict g c =
     c.from_residual-in_err-verdict.result c.in_err-verdict.field-0.0 (fault.1 ∙ ap Err fault.2) k.0 k.1 Yes
     (record {
       input = c.in_ok-bytes.bytes.items;
-      whole = c.in_ok-bytes.ensures.whole;
+      whole = c.in_ok-bytes.ensures.ok;
       verdict = k.2.1.said;
       some = yes_says;
       text = k.2.0;
@@ -39,7 +39,7 @@ returns-then-eq g c =
     let reads = reading g.R.Read.remaining g.R.Source.calls g.R.Source.failed c.args.reader.now c.read_whole.new.reader in
     all_reported IsRecordText reads writes c.read_whole.ensures.reads 0 Yes refl (record {
       input = c.in_ok-bytes.bytes.items;
-      whole = c.in_ok-bytes.ensures.whole;
+      whole = c.in_ok-bytes.ensures.ok;
       verdict = k.1.1.said;
       some = yes_says;
       text = k.1.0;
@@ -53,7 +53,7 @@ returns-then-eq-2 g c =
     let reads = reading g.R.Read.remaining g.R.Source.calls g.R.Source.failed c.args.reader.now c.read_whole.new.reader in
     let other : c.in_ok-verdict.verdict ≢ Yes = search rules in
     let k = unwritten writes c.as_slice.result.now c.in_ok-verdict.verdict other c.in_ok-verdict.ensures in
-    unread IsRecordText reads writes c.read_whole.ensures.reads k.1 (Err Memory) Memory refl (inr refl) memory_is_no_read (λ e. c.in_ok-bytes.ensures.whole.no_read_failed)
+    unread IsRecordText reads writes c.read_whole.ensures.reads k.1 (Err Memory) Memory refl (inr refl) memory_is_no_read (λ e. c.in_ok-bytes.ensures.ok.no_read_failed)
 
 pub put_all-requires : goal.put_all-requires
 put_all-requires g c =
@@ -77,7 +77,7 @@ returns-in_err-put_all g c =
     (subst (λ w. g.W.Sink.failed w < g.W.Sink.failed c.put_all.new.writer) k.1 c.in_err-put_all.ensures.failed) c.in_ok-verdict.verdict
     (record {
       input = c.in_ok-bytes.bytes.items;
-      whole = c.in_ok-bytes.ensures.whole;
+      whole = c.in_ok-bytes.ensures.ok;
       verdict = k.0;
       some = some;
       text = verdict_text c.in_ok-verdict.verdict;
@@ -98,7 +98,7 @@ returns g c =
     (subst (λ (b : List ℕ). IsMigrated writes b (Ok c.in_ok-verdict.verdict)) c.as_slice.ensures.value c.in_ok-verdict.ensures) in
     all_reported IsRecordText reads writes' c.read_whole.ensures.reads 1 c.in_ok-verdict.verdict (status_one c.in_ok-verdict.verdict other) (record {
       input = c.in_ok-bytes.bytes.items;
-      whole = c.in_ok-bytes.ensures.whole;
+      whole = c.in_ok-bytes.ensures.ok;
       verdict = k.0;
       some = some;
       text = verdict_text c.in_ok-verdict.verdict;

@@ -19,7 +19,7 @@ returns-in_err-verdict g c =
     let fault = err_from_is_err_and c.from_residual-in_err-verdict.result c.from_residual-in_err-verdict.ensures.1 in
     let shown = subst (λ (b : List ℕ). IsShown writes b c.stretch_asked.result (Err c.in_err-verdict.field-0.0)) c.as_slice.ensures.value c.in_err-verdict.ensures in
     half_shown stretch (reading g.R.Read.remaining g.R.Source.calls g.R.Source.failed c.args.reader.now c.read_whole.new.reader) writes c.read_whole.ensures.reads
-    c.from_residual-in_err-verdict.result c.in_err-verdict.field-0.0 (fault.1 ∙ ap Err fault.2) c.in_ok-bytes.bytes.items c.in_ok-bytes.ensures.whole
+    c.from_residual-in_err-verdict.result c.in_err-verdict.field-0.0 (fault.1 ∙ ap Err fault.2) c.in_ok-bytes.bytes.items c.in_ok-bytes.ensures.ok
     (subst (λ s. IsShown writes c.in_ok-bytes.bytes.items s (Err c.in_err-verdict.field-0.0)) c.stretch_asked.ensures shown)
 
 pub returns : goal.returns
@@ -28,5 +28,5 @@ returns g c =
     let stretch = stretch_asked c.args.showing in
     let shown = subst (λ (b : List ℕ). IsShown writes b c.stretch_asked.result (Ok c.in_ok-verdict.verdict)) c.as_slice.ensures.value c.in_ok-verdict.ensures in
     all_shown stretch (reading g.R.Read.remaining g.R.Source.calls g.R.Source.failed c.args.reader.now c.read_whole.new.reader) writes c.read_whole.ensures.reads
-    c.in_ok-verdict.verdict c.in_ok-bytes.bytes.items c.in_ok-bytes.ensures.whole
+    c.in_ok-verdict.verdict c.in_ok-bytes.bytes.items c.in_ok-bytes.ensures.ok
     (subst (λ s. IsShown writes c.in_ok-bytes.bytes.items s (Ok c.in_ok-verdict.verdict)) c.stretch_asked.ensures shown)
