@@ -1,5 +1,6 @@
 -- a turn of the loop over a queue of replies that was prefetched of a log
 use Rattle.std.specs.Prelude.{◌≡◌, ◌+◌, ◌≤◌, ◌<◌, ◌⊎◌, ℕ, List, [], ◌∷◌, ◌++◌, length, true, false, Option}
+use Rattle.model_asked.specs.Config.{gives_names}
 use Rattle.model_asked.specs.declared.config.Config.{Config}
 use Rattle.service_log.specs.Places.{Keeps, Same}
 use Rattle.service_log.specs.Replicas.{HasAppliedFrom, IsDueFrom, Leads, StandsFrom}
@@ -20,6 +21,7 @@ use Rattle.service_follow.specs.Said.{reply_queue_of}
 use Rattle.service_follow.specs.ReplyQueueState.{ReplyQueueState}
 use Rattle.service_follow.specs.Stays.{StayApplies, start_of}
 use Rattle.service_follow.specs.StayState.{StayState}
+use Rattle.service_follow.specs.Terms.{HasFirstLine}
 use Rattle.service_follow.specs.declared.marks.Mark.TheVariants.{Ordinary}
 
 -- nothing stands at the place behind all that was applied, as a store tells, or there is none
@@ -73,6 +75,15 @@ module _ {S : Type 0} (stands : S → ℕ → List ℕ → Type 0) where
     pub at_end : IsAtEnd (lacks f.store) f.stays.place
     pub well : f.replica.poisoned ≡ false
     pub place : f.replica.place ≡ f.stays.place
+
+  -- a hall of this config was opened, whose world gives names: its log begins with the line of the config, all that stood there was applied up to a place at
+  -- which nothing stands, as the store told, and all is known of the hall
+  pub record IsOpened (lacks : S → ℕ → Type 0) (config : Config) (f : FollowState S) : Type 0 where
+    pub named : gives_names config.world ≡ true
+    pub config_is : f.config ≡ config
+    pub begins : HasFirstLine (stands f.store) config
+    pub at_end : IsAtEnd (lacks f.store) f.replica.place
+    pub known : f.stays.machine.blind ≡ false
 
   -- Reads of a front end that has none stored are answered so, where the log was read to its end since they came. They add nothing to the log
   pub record IsReadBy (lacks : S → ℕ → Type 0) (old new : FollowState S) (reads : Reads) (lines : List ℕ) (reply_queue : ReplyQueueState) : Type 0 where

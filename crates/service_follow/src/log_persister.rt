@@ -3,12 +3,11 @@
 ghost use Rattle.std.specs.Prelude.{◌≡◌, ◌≢◌, ◌↔◌, ◌==◌, ◌+◌, ◌-◌, ◌++◌, ◌<◌, ◌≤◌, ◌⊎◌, ℕ, [], true, false, ltb, map, None, Ok, Err, OnOk, IfOk, IfSome, All};
 ghost use Rattle.std.specs.List.{list_any};
 ghost use Rattle.std.specs.String.{string_bytes};
-ghost use Rattle.model_asked.specs.Config.{gives_names};
 ghost use Rattle.service_log.specs.Places.{Keeps, Same};
 ghost use Rattle.service_follow.specs.Batches.{batch_by, batch_of, head_of, hex_digit, hex_digits, next_count, told_of};
 ghost use Rattle.service_follow.specs.Decided.{AddsBatch, HasLooked, IsDecided, next_read, release_lines};
 ghost use Rattle.service_hall.specs.declared.reads.Reads.TheVariants.{Plain};
-ghost use Rattle.service_follow.specs.Hosted.{HasAppliedAll, HasGoneOn, HasMovedOn, IsAtEnd, IsPrefetchedBy, IsReadBy, IsServed};
+ghost use Rattle.service_follow.specs.Hosted.{HasAppliedAll, HasGoneOn, HasMovedOn, IsAtEnd, IsOpened, IsPrefetchedBy, IsReadBy, IsServed};
 ghost use Rattle.service_follow.specs.Pauses.{IsSpent};
 ghost use Rattle.service_follow.specs.Readings.{are_reads, read_by, requested, requests_in};
 ghost use Rattle.service_follow.specs.Said.{reply_queue_of};
@@ -252,13 +251,9 @@ impl<S: Store + Drop, T: Pause + Drop> LogPersister<S, T> {
         token: [u8; 32],
         terms: HallTerms,
     ) -> Result<LogPersister<S, T>, LogFault>
-        ensures config { IfOk result (λ k. k.log.config ≡ config) }
-        ensures begins { IfOk result (λ k. HasFirstLine (S.stands k.log.store) config) }
-        ensures all { IfOk result (λ k. IsAtEnd (S.lacks k.log.store) k.log.replica.place) }
-        ensures known { IfOk result (λ k. k.log.stays.machine.blind ≡ false) }
-        ensures token { result ≡ Err LogFault.Token ↔ (list_any (λ b. b == 10) token ≡ true) }
-        ensures named { OnOk result (gives_names config.world ≡ true) }
         ensures grace { IfOk result (λ k. grace_of terms ≤ k.sessions.grace) }
+        ensures opened { IfOk result (λ k. IsOpened S.stands S.lacks config k.log) }
+        ensures token { result ≡ Err LogFault.Token ↔ (list_any (λ b. b == 10) token ≡ true) }
     {
         let mut persister = match LogPersister::open_any(
             alloc, store, pause, config, token, terms,
@@ -293,13 +288,9 @@ impl<S: Store + Drop, T: Pause + Drop> LogPersister<S, T> {
         token: [u8; 32],
         terms: HallTerms,
     ) -> Result<LogPersister<S, T>, LogFault>
-        ensures config { IfOk result (λ k. k.log.config ≡ config) }
-        ensures begins { IfOk result (λ k. HasFirstLine (S.stands k.log.store) config) }
+        ensures opened { IfOk result (λ k. IsOpened S.stands S.lacks config k.log) }
         ensures terms { IfOk result (λ k. k.terms ≡ terms) }
-        ensures all { IfOk result (λ k. IsAtEnd (S.lacks k.log.store) k.log.replica.place) }
-        ensures known { IfOk result (λ k. k.log.stays.machine.blind ≡ false) }
         ensures token { result ≡ Err LogFault.Token ↔ (list_any (λ b. b == 10) token ≡ true) }
-        ensures named { OnOk result (gives_names config.world ≡ true) }
     {
         if token.contains(&LF) {
             return Err(LogFault::Token);
