@@ -93,20 +93,20 @@ fn the_greater_identity_has_the_greater_name(rt: HostRuntime) {
 
 /// A thread's part: the names, and a seat of theirs.
 #[derive(Drop)]
-struct Caller<'a> {
-    names: &'a Names<Global>,
-    seat: FreshNameSeat,
+pub struct Caller<'a> {
+    pub names: &'a Names<Global>,
+    pub seat: FreshNameSeat,
     ghost ours: { seat.names ≡ names.now },
 }
 
 /// The name of a seat.
-fn name_of(caller: Caller<'_>) -> u64 {
+pub fn name_of(caller: Caller<'_>) -> u64 {
     let Caller { names, seat } = caller;
     names.name(&names.rename(seat))
 }
 
 /// So many callers, each with a seat of its own, as far as there are seats.
-fn callers_of<'a>(
+pub fn callers_of<'a>(
     alloc: Global,
     names: &'a Names<Global>,
     mut dealer: NameDealer,
@@ -124,14 +124,14 @@ fn callers_of<'a>(
     Ok(callers)
 }
 
-/// Whether these are so many names, each below twice their number and no two alike.
-fn are_names_of(names: &[u64], count: u64) -> bool {
+/// Whether these are names below twice this number, no two alike.
+pub fn are_distinct(names: &[u64], count: u64) -> bool {
     for (i, name) in names.iter().enumerate() {
         if *name < 1 || count.saturating_mul(2) <= *name || names[..i].contains(name) {
             return false;
         }
     }
-    names.len() as u64 == count
+    true
 }
 
 /// Whether so many threads that are renamed at once, of so many seats, have names of their own below twice their number.
@@ -144,7 +144,7 @@ fn have_names<R: Threads + Sync>(
     let (names, dealer) = Names::new(alloc, most)?;
     let callers = callers_of(alloc, &names, dealer, count)?;
     let reported = thread::map_vec(rt, callers, &|caller| name_of(caller))?;
-    Ok(are_names_of(&reported, count))
+    Ok(reported.len() as u64 == count && are_distinct(&reported, count))
 }
 
 /// A thousand races from this one on, each hundredth of 64 threads. Ten tests make ten thousand, each in the minute that a test has.

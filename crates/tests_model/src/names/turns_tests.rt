@@ -3,7 +3,7 @@
 
 ghost use Rattle.std.specs.Prelude.{◌≡◌};
 
-use crate::names::names_tests::{identity_at, same};
+use crate::names::names_tests::{Caller, are_distinct, callers_of, identity_at, name_of, same};
 use model_recursion::{Cell, Namer};
 use model_steps::{Access, Answer, Note, Refusal, StepProgram};
 use rand_core::SeedableRng;
@@ -11,7 +11,7 @@ use rand_core::utils::NextWord;
 use rand_pcg::Lcg64Xsh32;
 use std::alloc::{AllocError, Global};
 use std::thread::{self, Threads};
-use words_names::{FreshNameSeat, NameDealer, Names, Renamed, Renaming};
+use words_names::{Names, Renamed, Renaming};
 
 /// The most accesses of a run.
 const MOST_STEPS: u64 = 60_000;
@@ -25,14 +25,6 @@ struct Runner<'a> {
     names: &'a Names<Global>,
     renaming: Renaming,
     ghost ours: { renaming.words ≡ names.now },
-}
-
-/// A seat with its names, which is renamed by a thread.
-#[derive(Drop)]
-struct Racer<'a> {
-    names: &'a Names<Global>,
-    seat: FreshNameSeat,
-    ghost ours: { seat.names ≡ names.now },
 }
 
 /// A participant of both: its runner until that has a name, and its program over simulated words.
@@ -91,27 +83,23 @@ fn step_both(lane: &mut Lane<'_>, words: &mut Vec<u64, Global>) -> bool {
     }
 }
 
-/// So many participants, each with a seat of its own, as far as there are seats.
+/// A participant of each of these seats, which are those of so many, in their order.
 fn lanes_of<'a>(
     alloc: Global,
-    names: &'a Names<Global>,
-    mut dealer: NameDealer,
+    callers: Vec<Caller<'a>, Global>,
     count: u8,
-) -> Result<Vec<Lane<'a>, Global>, Refusal>
-    requires ours { dealer.names ≡ names.now }
-{
+) -> Result<Vec<Lane<'a>, Global>, AllocError> {
     let mut lanes = Vec::new(alloc);
-    for number in 0..count {
-        let identity = identity_at(dealer.dealt());
-        let seat = names.deal(&mut dealer, identity)?;
+    let mut number: u8 = 0;
+    for caller in callers {
+        let Caller { names, seat } = caller;
+        let identity = seat.identity();
         let renaming = names.begin(seat);
-        let lane = Lane {
+        lanes.push(Lane {
             runner: Some(Runner { names, renaming }),
             program: Namer::new(count, number.saturating_add(1), identity),
-        };
-        if let Err(e) = lanes.push(lane) {
-            return Err(AllocError::from(e).into());
-        }
+        })?;
+        number = number.saturating_add(1);
     }
     Ok(lanes)
 }
@@ -121,7 +109,8 @@ fn lanes_of<'a>(
 fn go_as_the_programs(alloc: Global, seed: u64, count: u8) -> Result<bool, Refusal> {
     let (names, dealer) = Names::new(alloc, u64::from(count))?;
     let mut words = Vec::from_elem(alloc, 0u64, WORDS)?;
-    let mut lanes = lanes_of(alloc, &names, dealer, count)?;
+    let callers = callers_of(alloc, &names, dealer, u64::from(count))?;
+    let mut lanes = lanes_of(alloc, callers, count)?;
     let mut drawn = Lcg64Xsh32::seed_from_u64(seed);
     for _ in 0..MOST_STEPS {
         let index = drawn.next_word() as usize % lanes.len().max(1);
@@ -131,7 +120,7 @@ fn go_as_the_programs(alloc: Global, seed: u64, count: u8) -> Result<bool, Refus
             }
         }
     }
-    Ok(lanes.iter().all(|lane| lane.runner.is_none()))
+    Ok(lanes.len() == usize::from(count) && lanes.iter().all(|lane| lane.runner.is_none()))
 }
 
 #[test]
@@ -159,30 +148,6 @@ fn parked<'a>(runner: Runner<'a>, accesses: u64) -> Option<Runner<'a>> {
     Some(runner)
 }
 
-/// The name of a seat.
-fn name_of(racer: Racer<'_>) -> u64 {
-    let Racer { names, seat } = racer;
-    names.name(&names.rename(seat))
-}
-
-/// A racer for each seat but the first, as far as there are seats.
-fn racers_of<'a>(
-    alloc: Global,
-    names: &'a Names<Global>,
-    mut dealer: NameDealer,
-    count: u64,
-) -> Result<Vec<Racer<'a>, Global>, AllocError>
-    requires ours { dealer.names ≡ names.now }
-{
-    let mut racers = Vec::new(alloc);
-    for number in 1..count {
-        if let Ok(seat) = names.deal(&mut dealer, identity_at(number)) {
-            racers.push(Racer { names, seat })?;
-        }
-    }
-    Ok(racers)
-}
-
 /// Whether each of the others has a name of its own below twice their number, where the first of so many seats has made some accesses
 /// and then makes none.
 fn are_named_beside<R: Threads + Sync>(
@@ -202,20 +167,10 @@ fn are_named_beside<R: Threads + Sync>(
         },
         accesses,
     );
-    let racers = racers_of(alloc, &names, dealer, count)?;
-    let named = thread::map_vec(rt, racers, &|racer| name_of(racer))?;
+    let callers = callers_of(alloc, &names, dealer, count.saturating_sub(1))?;
+    let named = thread::map_vec(rt, callers, &|caller| name_of(caller))?;
     drop(stopped);
     Ok(are_distinct(&named, count))
-}
-
-/// Whether these are names below twice this number, no two alike.
-fn are_distinct(named: &[u64], count: u64) -> bool {
-    for (i, name) in named.iter().enumerate() {
-        if *name < 1 || count.saturating_mul(2) <= *name || named[..i].contains(name) {
-            return false;
-        }
-    }
-    true
 }
 
 #[test]
