@@ -1,6 +1,7 @@
 //! A whole server of a hall, by its plan.
 
-ghost use Rattle.std.specs.Prelude.{IfOk};
+ghost use Rattle.std.specs.Prelude.{◌≡◌, true, IfOk};
+ghost use Rattle.model_asked.specs.Requests.{Request};
 ghost use Rattle.service_journal.specs.Journals.{Stands};
 ghost use Rattle.service_host.specs.Sizes.{IsAlikeButSize};
 
@@ -9,11 +10,11 @@ use crate::export::write_events;
 use crate::failure::HostFailure;
 use crate::holders::config_of;
 use crate::keepers::stays_at_start;
-use crate::log_plan::{LogPlan, MEMBER_SECONDS, Patience, fresh_token, members_of};
+use crate::log_plan::{LogPlan, MEMBER_SECONDS, Patience, members_of};
 use crate::persisters::{Recorded, Unrecorded};
 use crate::reading::Reading;
-use crate::sizes::{are_alike_but_size, config_in};
-use crate::terms::{followed_any, terms_by, warn_of_none};
+use crate::sizes::are_alike_but_size;
+use crate::terms::{Opening, followed, terms_by, warn_of_none};
 use crate::widening::{SizeAsked, check_size, widen_followed, widen_recorded};
 use model_asked::{Config, WorldKind};
 use model_pool::stays::Stays;
@@ -24,8 +25,8 @@ use service_journal::{
 };
 use service_log::Store;
 use service_log::etcd::{EtcdStore, TcpDial};
-use service_loop::{Attended, Audit, AuditLog, HostOptions, Hosted, host};
-use service_watch::listeners::{ListenPlan, Listening, SocketFile, listen};
+use service_loop::{Attended, Audit, AuditLog, HostFault, HostOptions, Persist, host};
+use service_watch::listeners::{ListenFault, ListenPlan, Listening, listen};
 use std::alloc::{AllocGlobal, Global};
 use std::fs::File;
 use std::io::{ErrorKind, Write};
@@ -33,6 +34,7 @@ use std::net::Net;
 use std::rt::{Clock, Files};
 use std::sync::Wait;
 use std::time::Duration;
+use text_player::Service;
 
 /// Where the history of a hall is kept.
 #[derive(Clone, Copy, Debug, Drop)]
@@ -97,20 +99,50 @@ impl HostPlan<'_> {
     }
 }
 
-// Tells how serving ended. Where it ended well the file of the socket is removed.
-fn ended<R: Files>(
+// Listens, and serves clients of a service over a world of this kind. Where that ended well the file of the socket is removed.
+fn serve<R, D, K, L: AuditLog, W: Write, E: Write>(
     rt: &R,
-    file: Option<SocketFile>,
-    hosted: Result<Hosted, HostFailure>,
-) -> Result<(), HostFailure> {
+    alloc: Global,
+    plan: &HostPlan<'_>,
+    kind: WorldKind,
+    service: D,
+    stays: Stays,
+    persister: K,
+    audit: &mut L,
+    output: &mut W,
+    errors: &mut E,
+) -> Result<Result<(), HostFault<K::Fault>>, ListenFault>
+where
+    R: Net + Wait + Clock + Files,
+    D: Service<R> + Drop,
+    K: Persist<D> + Drop,
+    requires { (q : Request) → D.knows q ≡ true }
+{
+    let Listening { listeners, file } = match listen(rt, alloc, plan.listen) {
+        Ok(listening) => listening,
+        Err(fault) => return Err(fault),
+    };
+    let mut persister = persister;
+    let mut attended = Attended::new(service, stays, plan.grace.is_some(), plan.audit(alloc));
+    let hosted = host(
+        rt,
+        alloc,
+        plan.options(kind),
+        listeners,
+        &mut attended,
+        &mut persister,
+        audit,
+        output,
+        errors,
+    );
     match hosted {
         Ok(_) => {
             if let Some(file) = file {
                 file.remove(rt);
             }
-            Ok(())
+            Ok(Ok(()))
         }
-        Err(failure) => Err(failure),
+        Err(fault) => Ok(Err(fault)),
     }
 }
 
@@ -222,7 +254,7 @@ fn host_recorded<R: Net + Wait + Clock + Files, D: Disk, L: AuditLog, W: Write, 
     output: &mut W,
     errors: &mut E,
 ) -> Result<(), HostFailure> {
-    let (reading, mut persister) = match recorded(rt, alloc, plan, opened, errors) {
+    let (reading, persister) = match recorded(rt, alloc, plan, opened, errors) {
         Ok(recorded) => recorded,
         Err(failure) => return Err(failure),
     };
@@ -231,23 +263,12 @@ fn host_recorded<R: Net + Wait + Clock + Files, D: Disk, L: AuditLog, W: Write, 
         Err(failure) => return Err(failure),
     };
     let kind = reading.service.hall().config().world;
-    let mut attended = Attended::new(reading, stays, plan.grace.is_some(), plan.audit(alloc));
-    let Listening { listeners, file } = match listen(rt, alloc, plan.listen) {
-        Ok(listening) => listening,
-        Err(fault) => return Err(HostFailure::from(fault)),
-    };
-    let hosted = host(
-        rt,
-        alloc,
-        plan.options(kind),
-        listeners,
-        &mut attended,
-        &mut persister,
-        audit,
-        output,
-        errors,
-    );
-    ended(rt, file, hosted.map_err(HostFailure::from))
+    match serve(
+        rt, alloc, plan, kind, reading, stays, persister, audit, output, errors,
+    ) {
+        Ok(hosted) => hosted.map_err(HostFailure::from),
+        Err(fault) => Err(HostFailure::from(fault)),
+    }
 }
 
 // Serves a hall whose history ends with the program.
@@ -264,30 +285,19 @@ fn host_unrecorded<R: Net + Wait + Clock + Files, L: AuditLog, W: Write, E: Writ
         service: hall,
         rules: plan.rules,
     };
-    let mut attended = Attended::new(
-        reading,
-        Stays::new(alloc),
-        plan.grace.is_some(),
-        plan.audit(alloc),
-    );
-    let mut persister = Unrecorded {
+    let persister = Unrecorded {
         alloc,
         compactor: Compactor::new(),
         compactions: 0,
     };
-    let Listening { listeners, file } = listen(rt, alloc, plan.listen)?;
-    let hosted = host(
-        rt,
-        alloc,
-        plan.options(plan.config.world),
-        listeners,
-        &mut attended,
-        &mut persister,
-        audit,
-        output,
-        errors,
-    );
-    ended(rt, file, hosted.map_err(HostFailure::from))
+    let kind = plan.config.world;
+    let stays = Stays::new(alloc);
+    match serve(
+        rt, alloc, plan, kind, reading, stays, persister, audit, output, errors,
+    ) {
+        Ok(hosted) => hosted.map_err(HostFailure::from),
+        Err(fault) => Err(HostFailure::from(fault)),
+    }
 }
 
 /// The store in which the log of a plan stands.
@@ -306,26 +316,6 @@ pub(crate) fn store_of<'r, R: Net>(
     };
     let dial = TcpDial::new(rt, members, Duration::from_secs(MEMBER_SECONDS));
     Ok(EtcdStore::new(alloc, dial, prefix))
-}
-
-// Opens the hall of a log to serve its clients by these terms, whatever it stands in: all that stands there is applied.
-fn followed<R: Files<File = File>, S: Store + Drop, P: Pause + Drop>(
-    rt: &R,
-    alloc: Global,
-    config: Config,
-    store: S,
-    pause: P,
-    terms: HallTerms,
-) -> Result<LogPersister<S, P>, HostFailure> {
-    let (mut store, mut pause) = (store, pause);
-    let config = match config_in(alloc, &mut store, &mut pause, config) {
-        Ok(config) => config,
-        Err(failure) => return Err(failure),
-    };
-    match fresh_token(rt) {
-        Ok(token) => Ok(LogPersister::open(alloc, store, pause, config, token, terms)?),
-        Err(failure) => Err(failure),
-    }
 }
 
 // Serves a hall whose history is in a log.
@@ -363,47 +353,40 @@ where
     R: Net + Wait + Clock + Files<File = File>,
 {
     let terms = terms_by(plan.grace);
-    let mut persister = match followed(rt, alloc, plan.config, store, pause, terms) {
+    let mut persister = match followed(
+        rt,
+        alloc,
+        plan.config,
+        store,
+        pause,
+        terms,
+        Opening::ToServe,
+    ) {
         Ok(persister) => persister,
         Err(failure) => return Err(failure),
     };
     warn_of_none(persister.told_terms(), errors);
     // Who kept the stays that are there at the start follows from the log.
-    let mut reply_queue = ReplyQueue::new(alloc);
+    let mut queue = ReplyQueue::new(alloc);
     if let Err(failure) = widen_followed(
         rt,
         alloc,
         plan.size_asked(),
-        &mut reply_queue,
+        &mut queue,
         &mut persister,
         errors,
     ) {
         return Err(failure);
     }
-    let Listening { listeners, file } = match listen(rt, alloc, plan.listen) {
-        Ok(listening) => listening,
-        Err(fault) => return Err(HostFailure::from(fault)),
-    };
     persister.choose_rules(plan.rules);
     let kind = persister.hall().config().world;
-    let mut attended = Attended::new(
-        reply_queue,
-        Stays::new(alloc),
-        plan.grace.is_some(),
-        plan.audit(alloc),
-    );
-    let hosted = host(
-        rt,
-        alloc,
-        plan.options(kind),
-        listeners,
-        &mut attended,
-        &mut persister,
-        audit,
-        output,
-        errors,
-    );
-    ended(rt, file, hosted.map_err(HostFailure::from))
+    let stays = Stays::new(alloc);
+    match serve(
+        rt, alloc, plan, kind, queue, stays, persister, audit, output, errors,
+    ) {
+        Ok(hosted) => hosted.map_err(HostFailure::from),
+        Err(fault) => Err(HostFailure::from(fault)),
+    }
 }
 
 /// Writes the accepted events of the history that stands in a log as the lines of commands that ask for them, and serves nobody.
@@ -436,7 +419,15 @@ fn export_followed<R: Files<File = File>, S: Store + Drop, P: Pause + Drop, W: W
     output: &mut W,
 ) -> Result<(), HostFailure> {
     // It ends no stays, so that it may be of any terms.
-    match followed_any(rt, alloc, config, store, pause, HallTerms::Forever) {
+    match followed(
+        rt,
+        alloc,
+        config,
+        store,
+        pause,
+        HallTerms::Forever,
+        Opening::ToLook,
+    ) {
         Ok(persister) => write_events(alloc, persister.hall(), output),
         Err(failure) => Err(failure),
     }
