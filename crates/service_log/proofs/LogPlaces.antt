@@ -1,6 +1,6 @@
 -- What stands at the places of a log that grows.
-use Rattle.std.proofs.Common.{◌≡◌, ◌<◌, ℕ, zero, suc, List, [], ◌∷◌, ◌++◌, length, ◌⊎◌, inl, inr, refl, arith}
-use Rattle.service_log.specs.Places.{Adds, IsTaken, stands_in}
+use Rattle.std.proofs.Common.{◌≡◌, ◌<◌, ◌≤◌, ℕ, zero, suc, List, [], ◌∷◌, ◌++◌, length, ◌⊎◌, inl, inr, refl, arith}
+use Rattle.service_log.specs.Places.{Adds, IsDecidedBelow, IsTaken, stands_in}
 
 -- the entry that was added stands behind all others
 pub stands_last : (log : List (List ℕ)) (entry : List ℕ) → stands_in (log ++ entry ∷ []) (length log) entry
@@ -32,3 +32,6 @@ pub taken_below : (log : List (List ℕ)) (place : ℕ) → place < length log �
 taken_below [] place within = absurd (omega (arith, within))
 taken_below (first ∷ log) zero within = (first, refl)
 taken_below (first ∷ log) (suc place) within = taken_below log place (omega (arith, within))
+
+pub decided_below : (log : List (List ℕ)) (below : ℕ) → below ≤ length log → IsDecidedBelow (stands_in log) below
+decided_below log below within = λ place less. taken_below log place (omega (arith, within, less))

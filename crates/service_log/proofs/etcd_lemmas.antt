@@ -2,3 +2,4 @@ pub mod Behind
 pub mod KeyDigits
 pub mod Lasts
 pub mod Ranges
+pub mod Trims

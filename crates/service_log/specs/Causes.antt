@@ -25,7 +25,7 @@ abbrev pub MayFail : (StoreFault → Type 0) → ServeFault → Type 0
 MayFail fails TooLong = Unit {0}
 MayFail fails (Unknown cause) = MayCause fails cause
 
--- a store in memory lacks memory, or has a place before which one is empty
+-- a store in memory lacks memory, has a place before which one is empty, or gave an entry up
 abbrev pub FailsInMemory : StoreFault → Type 0
 FailsInMemory StoreFault.Memory = Unit {0}
 FailsInMemory StoreFault.Gap = Unit {0}
@@ -34,3 +34,4 @@ FailsInMemory StoreFault.Wrong = ⊥
 FailsInMemory StoreFault.TooLong = ⊥
 FailsInMemory StoreFault.NoSpace = ⊥
 FailsInMemory StoreFault.WentBack = ⊥
+FailsInMemory StoreFault.Trimmed = Unit {0}

@@ -1,5 +1,5 @@
 -- Places that are written once: what stands where, before and after a call.
-use Rattle.std.specs.Prelude.{◌≡◌, ℕ, List, Some, slice_get, ◌⊎◌}
+use Rattle.std.specs.Prelude.{◌≡◌, ◌<◌, ℕ, List, Some, slice_get, ◌⊎◌}
 
 -- what stands at the places of a log, which is its entries in order
 abbrev pub stands_in : List (List ℕ) → ℕ → List ℕ → Type 0
@@ -8,6 +8,10 @@ stands_in log place entry = slice_get log place ≡ Some entry
 -- something stands at a place
 abbrev pub IsTaken : (ℕ → List ℕ → Type 0) → ℕ → Type 0
 IsTaken stands place = (entry : List ℕ) × stands place entry
+
+-- something stands at each place below this one
+abbrev pub IsDecidedBelow : (ℕ → List ℕ → Type 0) → ℕ → Type 0
+IsDecidedBelow stands below = (place : ℕ) → place < below → IsTaken stands place
 
 -- a store tells of one place both that something stands there and that nothing does
 abbrev pub Contradicts : {S : Type 0} → (S → ℕ → List ℕ → Type 0) → (S → ℕ → Type 0) → Type 0

@@ -1,9 +1,9 @@
 //! Several replicas that share one log in memory.
 
-ghost use Rattle.std.specs.Prelude.{◌≡◌, ◌≢◌, ◌<◌, ◌≤◌, ◌+◌, ℕ, [], ◌∷◌, ◌++◌, ◌⊎◌, length, slice_get, true, false, not, Some, Ok, Err, OnOk, OnErr, IfErr};
+ghost use Rattle.std.specs.Prelude.{◌≡◌, ◌≢◌, ◌<◌, ◌≤◌, ◌+◌, ℕ, [], ◌∷◌, ◌++◌, ◌⊎◌, length, slice_get, true, false, not, ◌↔◌, Some, Ok, Err, OnOk, OnErr, IfErr};
 ghost use Rattle.service_log.specs.Causes.{FailsInMemory, MayCause, MayFail};
 ghost use Rattle.service_log.specs.Groups.{IsOneHistory, StaysOneHistory, TellsOneMore};
-ghost use Rattle.service_log.specs.Places.{IsTaken, stands_in};
+ghost use Rattle.service_log.specs.Places.{IsDecidedBelow, IsTaken, stands_in};
 ghost use Rattle.service_log.specs.Replicas.{FaultLeaves, OneMore, ServeLeaves};
 ghost use Rattle.service_log.specs.ReplicaState.{ReplicaState};
 ghost use Rattle.service_log.specs.declared.replica.Step.TheVariants.{Answered, Nothing, Passed};
@@ -11,11 +11,14 @@ ghost use Rattle.service_log.specs.declared.serve_fault.Cause.TheVariants.{Busy}
 ghost use Rattle.service_log.specs.declared.serve_fault.Cause.TheVariants as cause;
 ghost use Rattle.service_log.specs.declared.serve_fault.ServeFault.TheVariants.{TooLong, Unknown};
 ghost use Rattle.service_log.specs.declared.store_fault.StoreFault.{StoreFault};
+ghost use Rattle.service_log.specs.declared.store_fault.StoreFault.TheVariants as store_fault;
 
 use crate::machine::Machine;
 use crate::memory_store::MemoryStore;
 use crate::replica::{Replica, Step};
 use crate::serve_fault::{Cause, ServeFault};
+use crate::store::Store;
+use crate::store_fault::StoreFault;
 use std::alloc::{AllocError, Global};
 use std::marker::Model;
 
@@ -82,11 +85,26 @@ impl<M: Machine + Drop> Group<M> {
         }
     }
 
+    /// Gives up the entries of the log below a place, but never the first (`Store::trim`). All that stood is decided still.
+    ///
+    /// # Errors
+    ///
+    /// `Gap`: the log is shorter. Nothing has changed.
+    pub fn trim(&mut self, place: u64) -> Result<bool, StoreFault>
+        ensures log { self.new.log ≡ self.old.log }
+        ensures replicas { self.new.replicas ≡ self.old.replicas }
+        ensures decided { OnOk result (IsDecidedBelow (stands_in self.new.log) place) }
+        ensures gap { result ≡ Err store_fault.Gap ↔ length self.old.log < place }
+        ensures history { (start : M) → StaysOneHistory M.applies start self.old self.new }
+    {
+        self.store.trim(place)
+    }
+
     /// Makes one step of replica `at` for a batch (`Replica::step`). The replicas are counted from 0.
     ///
     /// # Errors
     ///
-    /// Those of `Replica::step`, in that order. The log in memory fails with `StoreFault::Memory` or `Gap` alone.
+    /// Those of `Replica::step`, in that order. The log in memory fails with `StoreFault::Memory`, `Gap` or `Trimmed` alone.
     pub fn step(&mut self, at: usize, batch: &[u8], replies: &mut M::Replies) -> Result<Step, Cause>
         requires in_bounds { at < length self.old.replicas }
         ensures log { (self.new.log ≡ self.old.log) ⊎ (self.new.log ≡ self.old.log ++ batch.now ∷ []) }
@@ -115,7 +133,7 @@ impl<M: Machine + Drop> Group<M> {
     ///
     /// # Errors
     ///
-    /// Those of `Replica::serve`, in that order. The log in memory fails with `StoreFault::Memory` or `Gap` alone.
+    /// Those of `Replica::serve`, in that order. The log in memory fails with `StoreFault::Memory`, `Gap` or `Trimmed` alone.
     pub fn serve(
         &mut self,
         at: usize,

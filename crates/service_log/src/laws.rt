@@ -1,8 +1,8 @@
 //! Laws of replicas, which run nothing.
 
-ghost use Rattle.std.specs.Prelude.{◌≡◌, ◌≤◌, ℕ, List, length, false};
+ghost use Rattle.std.specs.Prelude.{◌≡◌, ◌<◌, ◌≤◌, ℕ, List, length, false};
 ghost use Rattle.service_log.specs.Groups.{IsDetermined, IsDueIn, Reported};
-ghost use Rattle.service_log.specs.Places.{Contradicts, Keeps, stands_in};
+ghost use Rattle.service_log.specs.Places.{Contradicts, IsDecidedBelow, Keeps, stands_in};
 ghost use Rattle.service_log.specs.Replicas.{IsAnswered, IsDueFrom, IsReplica, IsReplicaFrom};
 ghost use Rattle.service_log.specs.ReplicaState.{ReplicaState};
 ghost use Rattle.service_log.specs.declared.replica.TheConstants.{MOST_BATCH, MOST_STEPS};
@@ -34,6 +34,15 @@ pub fn law_of_following<M: Machine, S: Store>()
     ensures due { (from : ℕ) (start : M) (old new : ReplicaState M) (batch : List ℕ) (replies : M.Replies) (s t : S) → Keeps (S.stands s) (S.stands t) →
         IsReplicaFrom M.applies (S.stands s) from start old → IsAnswered M.applies (S.stands t) old batch new replies →
         IsDueFrom M.applies (S.stands t) from start batch replies new }
+{}
+
+/// A law of a store that never contradicts itself, before and after calls that keep all entries of the log.
+///
+/// Once entries below a place were given up (`Store::trim`), no put is ever `Written` at a place below it. A put is `Written` only at a place that the
+/// store lacks (`Store::put`).
+pub fn law_of_trims<S: Store>()
+    ensures { (Contradicts S.stands S.lacks → ⊥) → (below place : ℕ) (s t : S) → IsDecidedBelow (S.stands s) below → Keeps (S.stands s) (S.stands t) →
+        place < below → S.lacks t place → ⊥ }
 {}
 
 /// A law: a log in memory never reports of one place both that it has an entry and that it has none.

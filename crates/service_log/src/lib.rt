@@ -1,6 +1,8 @@
 //! One log that several machines share, and a replica of a machine that follows it (Schneider 1990).
 //!
 //! A `Store` has places, each of which is written at most once, by the first caller. Its entries in order are the log.
+//! Entries may be given up (`Store::trim`), and their places stay taken for good.
+//!
 //! A `Replica` applies the entries of the log to its `Machine`, each once, in their order.
 //!
 //! `Replica::serve` puts a batch into the log, after all entries that are there, and returns the replies that are due
@@ -44,7 +46,7 @@ pub mod store;
 pub mod store_fault;
 
 pub use group::Group;
-pub use laws::{law_of_agreement, law_of_following, law_of_limits, law_of_memory};
+pub use laws::{law_of_agreement, law_of_following, law_of_limits, law_of_memory, law_of_trims};
 pub use machine::{ApplyFault, Machine};
 pub use memory_store::MemoryStore;
 pub use replica::{MOST_BATCH, MOST_STEPS, Replica, Step};

@@ -1,7 +1,7 @@
 //! A log in memory.
 
-ghost use Rattle.std.specs.Prelude.{◌≡◌, ◌<◌, ◌≤◌, [], ◌∷◌, ◌++◌, length, Some, None, Ok, Err, true, false, OnOk, OnErr, IfSome, IfNone, slice_get};
-ghost use Rattle.service_log.specs.Places.{stands_in};
+ghost use Rattle.std.specs.Prelude.{◌≡◌, ◌<◌, ◌≤◌, [], ◌∷◌, ◌++◌, length, Some, None, Ok, Err, true, false, OnOk, OnErr, IfErr, IfSome, IfNone, ◌↔◌, slice_get};
+ghost use Rattle.service_log.specs.Places.{IsDecidedBelow, Same, stands_in};
 ghost use Rattle.service_log.specs.Causes.{FailsInMemory};
 ghost use Rattle.service_log.specs.declared.store.Put.TheVariants.{Written, Taken};
 ghost use Rattle.service_log.specs.declared.store_fault.StoreFault.TheVariants.{Memory, Gap};
@@ -17,6 +17,8 @@ pub struct MemoryStore {
     alloc: Global,
     entries: Vec<Vec<u8>>,
     hint: Option<u64>,
+    /// Entries below this place were given up, but the first. They stay in memory.
+    gone: u64,
 }
 
 impl Model for MemoryStore {
@@ -36,6 +38,7 @@ impl MemoryStore {
             alloc,
             entries: Vec::new(alloc),
             hint: None,
+            gone: 0,
         }
     }
 
@@ -96,6 +99,9 @@ impl Store for MemoryStore {
         let Some(next) = self.entries.get(place as usize) else {
             return Ok(false);
         };
+        if 0 < place && place < self.gone {
+            return Err(StoreFault::Trimmed);
+        }
         entry.clear();
         match entry.extend_from_slice(next) {
             Ok(()) => Ok(true),
@@ -110,5 +116,23 @@ impl Store for MemoryStore {
     fn put_hint(&mut self, place: u64) -> Result<(), StoreFault> {
         self.hint = Some(place);
         Ok(())
+    }
+
+    fn trim(&mut self, place: u64) -> Result<bool, StoreFault>
+        ensures kept { self.new ≡ self.old }
+        ensures same { Same (stands_in self.old) (stands_in self.new) }
+        ensures decided { OnOk result (IsDecidedBelow (stands_in self.new) place) }
+        ensures fault { IfErr result FailsInMemory }
+        ensures gap { result ≡ Err Gap ↔ length self.old < place }
+    {
+        if (self.entries.len() as u64) < place {
+            return Err(StoreFault::Gap);
+        }
+        self.gone = self.gone.max(place);
+        Ok(true)
+    }
+
+    fn trimmed(&mut self) -> Result<u64, StoreFault> {
+        Ok(self.gone)
     }
 }

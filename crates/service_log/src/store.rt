@@ -1,9 +1,9 @@
 //! Stores: logs whose places are written once.
 
-ghost use Rattle.std.specs.Prelude.{◌≡◌, ◌<◌, ℕ, List, true, false, Ok, Err, IfErr};
-ghost use Rattle.service_log.specs.Places.{Adds, IsTaken, Same};
+ghost use Rattle.std.specs.Prelude.{◌≡◌, ◌<◌, ℕ, List, true, false, Ok, Err, OnOk, IfErr};
+ghost use Rattle.service_log.specs.Places.{Adds, IsDecidedBelow, IsTaken, Same};
 ghost use Rattle.service_log.specs.declared.store.Put.TheVariants.{Written, Taken};
-ghost use Rattle.service_log.specs.declared.store_fault.StoreFault.TheVariants.{Gap};
+ghost use Rattle.service_log.specs.declared.store_fault.StoreFault.TheVariants.{Gap, Trimmed};
 
 use crate::store_fault::StoreFault;
 
@@ -27,16 +27,16 @@ pub trait Store {
     ghost use Rattle.service_log.specs.declared.store_fault.StoreFault.{StoreFault};
     ghost use Rattle.std.specs.Prelude.{ℕ, List};
 
-    /// An entry is at a place, as far as this store can tell.
+    /// An entry was decided at a place, as far as this store can tell. This is so for good, also if the entry is given up.
     ghost stands: { Self → ℕ → List ℕ → Type 0 };
 
-    /// A place is empty, as far as this store can tell.
+    /// A place was never written, as far as this store can tell.
     ghost lacks: { Self → ℕ → Type 0 };
 
     /// The faults that it may return.
     ghost fails: { StoreFault → Type 0 };
 
-    /// Writes an entry at a place below `MOST_PLACES`, if the place is empty.
+    /// Writes an entry at a place below `MOST_PLACES`, if the place was never written.
     ///
     /// # Errors
     ///
@@ -44,6 +44,7 @@ pub trait Store {
     /// returned only if a place before this one is empty.
     fn put(&mut self, place: u64, entry: &[u8]) -> Result<Put, StoreFault>
         ensures written { result ≡ Ok Written → stands self.new place entry.now }
+        ensures fresh { result ≡ Ok Written → lacks self.old place }
         ensures taken { result ≡ Ok Taken → Same (stands self.old) (stands self.new) }
         ensures stood { result ≡ Ok Taken → IsTaken (stands self.new) place }
         ensures adds { Adds (stands self.old) place entry.now (stands self.new) }
@@ -54,10 +55,11 @@ pub trait Store {
     ///
     /// # Errors
     ///
-    /// A fault of `fails`. The log stays as it was.
+    /// A fault of `fails`. The log stays as it was. `Trimmed` is returned only if the entry was given up.
     fn get(&mut self, place: u64, entry: &mut Vec<u8>) -> Result<bool, StoreFault>
         ensures found { result ≡ Ok true → stands self.new place entry.new.items }
         ensures missed { result ≡ Ok false → lacks self.new place }
+        ensures trimmed { result ≡ Err Trimmed → IsTaken (stands self.new) place }
         ensures same { Same (stands self.old) (stands self.new) }
         ensures fault { IfErr result fails };
 
@@ -77,6 +79,27 @@ pub trait Store {
     ///
     /// A fault of `fails`. The log stays as it was, and the place may be noted.
     fn put_hint(&mut self, place: u64) -> Result<(), StoreFault>
+        ensures same { Same (stands self.old) (stands self.new) }
+        ensures fault { IfErr result fails };
+
+    /// Gives up entries below a place, but never the first entry. These places stay taken for good (`law_of_trims`).
+    ///
+    /// One call may give up a part alone. It returns true if nothing is left to be given up below the place.
+    ///
+    /// # Errors
+    ///
+    /// A fault of `fails`. Entries below the place may be given up, unless it is `Gap`: a place below this one is empty.
+    fn trim(&mut self, place: u64) -> Result<bool, StoreFault>
+        ensures same { Same (stands self.old) (stands self.new) }
+        ensures decided { OnOk result (IsDecidedBelow (stands self.new) place) }
+        ensures fault { IfErr result fails };
+
+    /// Returns the place below which entries were given up, or 0 if none were. It is a hint alone: any place may be returned.
+    ///
+    /// # Errors
+    ///
+    /// A fault of `fails`. The log stays as it was.
+    fn trimmed(&mut self) -> Result<u64, StoreFault>
         ensures same { Same (stands self.old) (stands self.new) }
         ensures fault { IfErr result fails };
 }

@@ -27,4 +27,7 @@ pub enum StoreFault {
     /// state.
     #[error("the log went back")]
     WentBack,
+    /// The entry at this place was given up (`Store::trim`). The place is taken for good.
+    #[error("the log was trimmed here")]
+    Trimmed,
 }

@@ -9,6 +9,10 @@ abbrev pub if_header : {A : Type 0} → Option Json → Option A → Option A
 if_header None said = None
 if_header (Some header) said = said
 
+-- the revision of the store at which it answered
+abbrev pub revision_said : Json → Option (List ℕ)
+revision_said answer = option_and_then as_str (option_and_then (get (codes "revision")) (get (codes "header") answer))
+
 -- whether a transaction put its value
 abbrev pub was_put : Option Bool → Bool
 was_put None = false

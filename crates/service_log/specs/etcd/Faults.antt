@@ -9,3 +9,4 @@ IsOverNetwork StoreFault.TooLong = Unit {0}
 IsOverNetwork StoreFault.Gap = ⊥
 IsOverNetwork StoreFault.NoSpace = Unit {0}
 IsOverNetwork StoreFault.WentBack = Unit {0}
+IsOverNetwork StoreFault.Trimmed = Unit {0}

@@ -14,6 +14,18 @@ key_of prefix place = prefix ++ digits 16 place
 abbrev pub hint_key_of : List ℕ → List ℕ
 hint_key_of prefix = prefix ++ codes "last"
 
+-- what the keys begin with that say below which place entries were given up. No word of a command line has a zero byte, so that no other log has
+-- keys among them
+abbrev pub gone_of : List ℕ → List ℕ
+gone_of prefix = prefix ++ codes "gone" ++ 0 ∷ []
+
+-- the key that says that entries up to this place were given up, and the end of such keys
+abbrev pub gone_key_of : List ℕ → ℕ → List ℕ
+gone_key_of prefix place = gone_of prefix ++ digits 16 place
+
+abbrev pub gone_end_of : List ℕ → List ℕ
+gone_end_of prefix = prefix ++ codes "gone" ++ 1 ∷ []
+
 -- the number that digits say
 abbrev pub number_from : ℕ → List ℕ → ℕ
 number_from n [] = n

@@ -1,17 +1,19 @@
 //! The answers of etcd.
 
-ghost use Rattle.std.specs.Prelude.{◌≡◌, ◌≢◌, ◌⊎◌, ◌+◌, ◌<◌, ◌≤◌, ◌^◌, ◌++◌, ℕ, List, Some, None, Ok, Err, IfOk, IfErr, OnOk, IsUtf8, option_map, option_and_then};
+ghost use Rattle.std.specs.Prelude.{◌≡◌, ◌≢◌, ◌⊎◌, ◌+◌, ◌<◌, ◌≤◌, ◌^◌, ◌++◌, ℕ, List, Some, None, Ok, Err, IfOk, IfErr, OnOk, IsUtf8, codes, option_map, option_and_then};
 ghost use Rattle.std.specs.declared.vec.Vec.{Vec};
 ghost use Rattle.std.specs.declared.alloc.Global.{Global};
-ghost use Rattle.json.specs.Json.{Json, document};
+ghost use Rattle.json.specs.Json.{Json, document, string};
 ghost use Rattle.json.specs.Value.{value_view};
 ghost use Rattle.base64.specs.Engines.{standard};
 ghost use Rattle.base64.specs.GeneralPurpose.{decode_of};
-ghost use Rattle.service_log.specs.etcd.Answers.{put_said, entry_said, get_said};
+ghost use Rattle.service_log.specs.etcd.Answers.{put_said, entry_said, get_said, revision_said};
 ghost use Rattle.service_log.specs.etcd.Faults.{IsOverNetwork};
+ghost use Rattle.service_log.specs.etcd.Requests.{only};
 ghost use Rattle.service_log.specs.etcd.Found.{HasUnread, IsUnread, SaysAll, SaysFound, SaysFrom, is_written};
 
 use crate::etcd::key::{hint_key64, key64};
+use crate::etcd::request::forget_text;
 use crate::{Put, StoreFault};
 use base64::DecodeAllocError;
 use base64::engine::general_purpose::STANDARD;
@@ -245,5 +247,81 @@ pub fn read_hint(alloc: Global, body: &[u8], prefix: &str) -> Result<Option<u64>
         Some(Some(text)) => Ok(place_of(&decoded(alloc, text)?)),
         Some(None) => Ok(None),
         None => Err(StoreFault::Wrong),
+    }
+}
+
+/// What is noted of entries that were given up: those below a place, and the place before which they were deleted.
+#[derive(Clone, Copy, Debug, Drop, PartialEq, Eq)]
+pub struct Gone {
+    /// All entries below this place were given up, but the first.
+    pub below: u64,
+    /// Those before this place were deleted, but the first.
+    pub deleted: u64,
+}
+
+// Returns the base64 value of the first entry of an answer, if there is one.
+fn first_value<'v>(answer: &Value<'v>) -> Option<&'v str> {
+    answer.get("kvs")?.at(0)?.get("value")?.as_str()
+}
+
+// Returns what two places in 16 digits each note, or `None` of other bytes.
+fn gone_of(digits: &[u8]) -> Option<Gone> {
+    let (below, deleted) = digits.split_at_checked(16)?;
+    Some(Gone {
+        below: place_of(below)?,
+        deleted: place_of(deleted)?,
+    })
+}
+
+/// Reads the body of an answer to a request that gets what was noted of entries that were given up. Returns `None` if
+/// nothing was noted. Not proved: which places it returns. No entry hangs on them: a put compares the keys themselves.
+///
+/// # Errors
+///
+/// - `Memory`: an allocation failed.
+/// - `Wrong`: the body is no such answer.
+pub fn read_gone(alloc: Global, body: &[u8]) -> Result<Option<Gone>, StoreFault>
+    ensures fault { IfErr result IsOverNetwork }
+{
+    let mut scratch = Scratch::new(alloc);
+    let answer = parsed(alloc, body, &mut scratch)?;
+    if answer.get("header").is_none() {
+        return Err(StoreFault::Wrong);
+    }
+    let Some(text) = first_value(&answer) else {
+        return Ok(None);
+    };
+    match gone_of(&decoded(alloc, text)?) {
+        Some(gone) => Ok(Some(gone)),
+        None => Err(StoreFault::Wrong),
+    }
+}
+
+// Returns the revision of the store at which it answered, in digits, or `None` if the JSON is no answer.
+fn revision_said<'v>(answer: &Value<'v>) -> Option<&'v str>
+    ensures { option_map (λ text. text.now) result ≡ revision_said (value_view answer.now) }
+{
+    answer.get("header")?.get("revision")?.as_str()
+}
+
+/// Returns the text of the request that lets etcd forget what its keys held before the revision at which it answered.
+///
+/// # Errors
+///
+/// - `Memory`: an allocation failed.
+/// - `Wrong`: the body is no answer.
+pub fn forget_text_of(alloc: Global, body: &[u8]) -> Result<Vec<u8>, StoreFault>
+    ensures said { IfOk result (λ text. (revision : List ℕ) × (option_and_then revision_said (document body.now) ≡ Some revision) ×
+        (document text.items ≡ Some (only (codes "revision") (string revision)))) }
+    ensures fault { IfErr result IsOverNetwork }
+{
+    let mut scratch = Scratch::new(alloc);
+    let answer = parsed(alloc, body, &mut scratch)?;
+    let Some(revision) = revision_said(&answer) else {
+        return Err(StoreFault::Wrong);
+    };
+    match forget_text(alloc, revision) {
+        Ok(text) => Ok(text),
+        Err(_) => Err(StoreFault::Memory),
     }
 }

@@ -1,9 +1,9 @@
 //! The key of a place.
 
-ghost use Rattle.std.specs.Prelude.{◌≡◌, ◌<◌, ◌^◌, ◌++◌, ℕ, List, Ok, IfOk, OnOk, string_bytes};
+ghost use Rattle.std.specs.Prelude.{◌≡◌, ◌<◌, ◌^◌, ◌++◌, ◌∷◌, [], codes, ℕ, List, Ok, IfOk, OnOk, string_bytes};
 ghost use Rattle.base64.specs.Engines.{standard};
 ghost use Rattle.base64.specs.GeneralPurpose.{decode_of, encode_of};
-ghost use Rattle.service_log.specs.etcd.Keys.{digits, hint_key_of, key_of};
+ghost use Rattle.service_log.specs.etcd.Keys.{digits, gone_end_of, gone_key_of, hint_key_of, key_of};
 
 use base64::engine::general_purpose::STANDARD;
 use std::alloc::{AllocError, Global};
@@ -71,6 +71,54 @@ pub fn hint_key64(alloc: Global, prefix: &str) -> Result<String, AllocError>
     let mut key = Vec::from_slice(alloc, prefix.as_bytes())?;
     key.extend_from_slice(b"last")?;
     STANDARD.encode(alloc, &key)
+}
+
+// Returns a prefix, the word `gone` and one more byte.
+fn gone(alloc: Global, prefix: &str, end: u8) -> Result<Vec<u8>, AllocError>
+    ensures { IfOk result (λ key. key.items ≡ prefix.now ++ codes "gone" ++ end ∷ []) }
+{
+    let mut key = Vec::from_slice(alloc, prefix.as_bytes())?;
+    key.extend_from_slice(b"gone")?;
+    key.push(end)?;
+    Ok(key)
+}
+
+/// Returns the key under a prefix that says that entries up to a place were given up, in base64: the prefix, `gone`, a zero
+/// byte, and the place in 16 digits.
+///
+/// # Errors
+///
+/// `AllocError`: an allocation failed.
+pub fn gone_key64(alloc: Global, prefix: &str, place: u64) -> Result<String, AllocError>
+    ensures { IfOk result (λ text. decode_of standard (string_bytes text) ≡ Ok (gone_key_of prefix.now place)) }
+{
+    let mut noted = gone(alloc, prefix, 0)?;
+    push_digits(&mut noted, 16, place)?;
+    STANDARD.encode(alloc, &noted)
+}
+
+/// Returns the first key behind all those of `gone_key64`, in base64.
+///
+/// # Errors
+///
+/// `AllocError`: an allocation failed.
+pub fn gone_end64(alloc: Global, prefix: &str) -> Result<String, AllocError>
+    ensures { IfOk result (λ text. decode_of standard (string_bytes text) ≡ Ok (gone_end_of prefix.now)) }
+{
+    STANDARD.encode(alloc, &gone(alloc, prefix, 1)?)
+}
+
+/// Returns two places in 16 digits each, as they are noted where entries are given up.
+///
+/// # Errors
+///
+/// `AllocError`: an allocation failed.
+pub fn places_text(alloc: Global, one: u64, other: u64) -> Result<Vec<u8>, AllocError>
+    ensures { IfOk result (λ text. text.items ≡ digits 16 one ++ digits 16 other) }
+{
+    let mut text = place_text(alloc, one)?;
+    push_digits(&mut text, 16, other)?;
+    Ok(text)
 }
 
 /// A law: under one prefix two places below 10^16 have two keys.

@@ -1,13 +1,13 @@
 //! The requests to etcd. Each is the text of a JSON value.
 
-ghost use Rattle.std.specs.Prelude.{◌≡◌, ◌<◌, Some, Ok, codes, string_bytes, IfOk};
+ghost use Rattle.std.specs.Prelude.{◌≡◌, ◌<◌, ◌≤◌, ◌+◌, length, map, Some, Ok, codes, string_bytes, IfOk};
 ghost use Rattle.base64.specs.Engines.{standard};
 ghost use Rattle.base64.specs.GeneralPurpose.{decode_of};
-ghost use Rattle.json.specs.Json.{document, object};
-ghost use Rattle.json.specs.Value.{members_view, value_view};
-ghost use Rattle.service_log.specs.etcd.Requests.{SaysGet, SaysGetHint, SaysOne, SaysPut, SaysPutBehind, SaysPutHint, alone, both, compared, get_request, holds, never_created, only, pair, put_behind_request, put_if};
+ghost use Rattle.json.specs.Json.{array, document, object, string};
+ghost use Rattle.json.specs.Value.{items_view, members_view, value_view};
+ghost use Rattle.service_log.specs.etcd.Requests.{KeysFrom, SaysGet, SaysGetGone, SaysGetHint, SaysOne, SaysPut, SaysPutBehind, SaysPutHint, SaysTrim, alone, both, compared, created, delete_in, delete_of, get_request, holds, never_created, none_created, only, pair, put_behind_request, put_if, put_request, three, trim_changes, trim_if, trim_request};
 
-use crate::etcd::key::{hint_key64, key64, place_text};
+use crate::etcd::key::{gone_end64, gone_key64, hint_key64, key64, place_text, places_text};
 use base64::engine::general_purpose::STANDARD;
 use json::{Value, to_vec};
 use std::alloc::{AllocError, Global};
@@ -25,6 +25,14 @@ fn both<'a>(alloc: Global, one: Value<'a>, other: Value<'a>) -> Result<Value<'a>
     ensures { IfOk result (λ v. value_view v ≡ both (value_view one.entry) (value_view other.entry)) }
 {
     let items = vec![in alloc; one, other]?;
+    Ok(Value::Array(items))
+}
+
+// Makes a list of three items.
+fn three<'a>(alloc: Global, items: [Value<'a>; 3]) -> Result<Value<'a>, AllocError>
+    ensures { IfOk result (λ v. value_view v ≡ array (items_view items.entry)) }
+{
+    let items = Vec::from_array(alloc, items)?;
     Ok(Value::Array(items))
 }
 
@@ -63,6 +71,33 @@ fn compared<'a>(
     Ok(Value::Object(members))
 }
 
+// Makes the condition that a key was created, and stands.
+fn created<'a>(alloc: Global, key: &'a str) -> Result<Value<'a>, AllocError>
+    ensures { IfOk result (λ v. value_view v ≡ created key.now) }
+{
+    let members = vec![in alloc;
+        ("key", Value::String(key)),
+        ("target", Value::String("CREATE")),
+        ("result", Value::String("GREATER")),
+        ("create_revision", Value::String("0")),
+    ]?;
+    Ok(Value::Object(members))
+}
+
+// Makes the condition that no key from `key` on that comes before `end` was created.
+fn none_created<'a>(alloc: Global, key: &'a str, end: &'a str) -> Result<Value<'a>, AllocError>
+    ensures { IfOk result (λ v. value_view v ≡ none_created key.now end.now) }
+{
+    let members = vec![in alloc;
+        ("key", Value::String(key)),
+        ("range_end", Value::String(end)),
+        ("target", Value::String("CREATE")),
+        ("result", Value::String("EQUAL")),
+        ("create_revision", Value::String("0")),
+    ]?;
+    Ok(Value::Object(members))
+}
+
 // Makes the condition that a key was never created.
 fn never_created<'a>(alloc: Global, key: &'a str) -> Result<Value<'a>, AllocError>
     ensures { IfOk result (λ v. value_view v ≡ never_created key.now) }
@@ -77,17 +112,39 @@ fn holds<'a>(alloc: Global, key: &'a str, value: &'a str) -> Result<Value<'a>, A
     compared(alloc, key, "VALUE", "value", value)
 }
 
-// Makes two conditions: a key was never created, and the key before it has this value.
-fn conditions<'a>(
-    alloc: Global,
+/// The keys that are compared at a put, in base64.
+#[derive(Clone, Copy)]
+struct Keys<'a> {
     key: &'a str,
+    /// The keys from `gone` on that come before `end` say that the place was given up.
+    gone: &'a str,
+    end: &'a str,
+}
+
+// Makes two conditions: a key was never created, and none that says that it was given up.
+//
+// The first alone does not do: a key that was deleted has no create revision, as one that was never created.
+fn unwritten<'a>(alloc: Global, keys: &Keys<'a>) -> Result<Value<'a>, AllocError>
+    ensures { IfOk result (λ v. value_view v ≡ both (never_created keys.now.key.now) (none_created keys.now.gone.now keys.now.end.now)) }
+{
+    let never = never_created(alloc, keys.key)?;
+    both(alloc, never, none_created(alloc, keys.gone, keys.end)?)
+}
+
+// Makes these two conditions, and between them a third: the key before has this value.
+fn unwritten_behind<'a>(
+    alloc: Global,
+    keys: &Keys<'a>,
     before: &'a str,
     last: &'a str,
 ) -> Result<Value<'a>, AllocError>
-    ensures { IfOk result (λ v. value_view v ≡ both (never_created key.now) (holds before.now last.now)) }
+    ensures { IfOk result (λ v. value_view v ≡
+        three (never_created keys.now.key.now) (holds before.now last.now) (none_created keys.now.gone.now keys.now.end.now)) }
 {
-    let never = never_created(alloc, key)?;
-    both(alloc, never, holds(alloc, before, last)?)
+    let never = never_created(alloc, keys.key)?;
+    let held = holds(alloc, before, last)?;
+    let kept = none_created(alloc, keys.gone, keys.end)?;
+    three(alloc, [never, held, kept])
 }
 
 // Makes the object of a key and its value.
@@ -121,7 +178,23 @@ fn transaction<'a>(
     object_of(alloc, [("compare", compared), ("success", success)])
 }
 
-/// Returns the text of the request that puts an entry at a place under a prefix, if the place was never written.
+// Returns an entry in base64.
+fn value64(alloc: Global, entry: &[u8]) -> Result<String, AllocError>
+    ensures { IfOk result (λ text. decode_of standard (string_bytes text) ≡ Ok entry.now) }
+{
+    STANDARD.encode(alloc, entry)
+}
+
+// Returns the text of the transaction that puts a value at a key that was never created.
+fn text_first<'a>(alloc: Global, keys: &Keys<'a>, value: &'a str) -> Result<Vec<u8>, AllocError>
+    ensures { IfOk result (λ text. document text.items ≡ Some (put_request keys.now.key.now keys.now.gone.now keys.now.end.now value.now)) }
+{
+    let compared = unwritten(alloc, keys)?;
+    to_vec(alloc, &transaction(alloc, compared, keys.key, value)?)
+}
+
+/// Returns the text of the request that puts an entry at a place under a prefix, if the place was never written and not
+/// given up.
 ///
 /// # Errors
 ///
@@ -135,38 +208,35 @@ pub fn put_text(
     ensures { IfOk result (λ text. SaysPut text.items prefix.now place entry.now) }
 {
     let key = key64(alloc, prefix, place)?;
-    let value = STANDARD.encode(alloc, entry)?;
-    let compared = alone(alloc, never_created(alloc, key.as_str())?)?;
-    to_vec(
-        alloc,
-        &transaction(alloc, compared, key.as_str(), value.as_str())?,
-    )
-}
-
-// Returns an entry in base64.
-fn value64(alloc: Global, entry: &[u8]) -> Result<String, AllocError>
-    ensures { IfOk result (λ text. decode_of standard (string_bytes text) ≡ Ok entry.now) }
-{
-    STANDARD.encode(alloc, entry)
+    let value = value64(alloc, entry)?;
+    let gone = gone_key64(alloc, prefix, place)?;
+    let end = gone_end64(alloc, prefix)?;
+    let keys = Keys {
+        key: key.as_str(),
+        gone: gone.as_str(),
+        end: end.as_str(),
+    };
+    text_first(alloc, &keys, value.as_str())
 }
 
 // Returns the text of the transaction that puts a value at a key that was never created, if the key before has this
 // value.
-fn text_behind(
+fn text_behind<'a>(
     alloc: Global,
-    before: &str,
-    last: &str,
-    key: &str,
-    value: &str,
+    before: &'a str,
+    last: &'a str,
+    keys: &Keys<'a>,
+    value: &'a str,
 ) -> Result<Vec<u8>, AllocError>
-    ensures { IfOk result (λ text. document text.items ≡ Some (put_behind_request before.now last.now key.now value.now)) }
+    ensures { IfOk result (λ text. document text.items ≡
+        Some (put_behind_request before.now last.now keys.now.key.now keys.now.gone.now keys.now.end.now value.now)) }
 {
-    let compared = conditions(alloc, key, before, last)?;
-    to_vec(alloc, &transaction(alloc, compared, key, value)?)
+    let compared = unwritten_behind(alloc, keys, before, last)?;
+    to_vec(alloc, &transaction(alloc, compared, keys.key, value)?)
 }
 
-/// Returns the text of the request that puts an entry at a place, if the place was never written and the place before
-/// holds `stood`.
+/// Returns the text of the request that puts an entry at a place, if the place was never written and not given up, and the
+/// place before holds `stood`.
 ///
 /// # Errors
 ///
@@ -184,13 +254,14 @@ pub fn put_behind_text(
     let last = value64(alloc, stood)?;
     let key = key64(alloc, prefix, place)?;
     let value = value64(alloc, entry)?;
-    text_behind(
-        alloc,
-        before.as_str(),
-        last.as_str(),
-        key.as_str(),
-        value.as_str(),
-    )
+    let gone = gone_key64(alloc, prefix, place)?;
+    let end = gone_end64(alloc, prefix)?;
+    let keys = Keys {
+        key: key.as_str(),
+        gone: gone.as_str(),
+        end: end.as_str(),
+    };
+    text_behind(alloc, before.as_str(), last.as_str(), &keys, value.as_str())
 }
 
 // Makes the request for the keys from `key` on that come before `end`.
@@ -255,4 +326,168 @@ pub fn put_hint_text(alloc: Global, prefix: &str, place: u64) -> Result<Vec<u8>,
     let digits = place_text(alloc, place)?;
     let value = value64(alloc, &digits)?;
     to_vec(alloc, &pair(alloc, key.as_str(), value.as_str())?)
+}
+
+/// Returns the text of the request that gets what was noted of entries that were given up.
+///
+/// # Errors
+///
+/// `AllocError`: an allocation failed.
+pub fn gone_text(alloc: Global, prefix: &str) -> Result<Vec<u8>, AllocError>
+    ensures { IfOk result (λ text. SaysGetGone text.items prefix.now) }
+{
+    let key = gone_key64(alloc, prefix, 0)?;
+    let end = gone_end64(alloc, prefix)?;
+    to_vec(alloc, &range(alloc, key.as_str(), end.as_str())?)
+}
+
+/// Returns the text of the request that lets etcd forget what its keys held before a revision, which is a number in digits.
+///
+/// # Errors
+///
+/// `AllocError`: an allocation failed.
+pub fn forget_text(alloc: Global, revision: &str) -> Result<Vec<u8>, AllocError>
+    ensures { IfOk result (λ text. document text.items ≡ Some (only (codes "revision") (string revision.now))) }
+{
+    to_vec(alloc, &only(alloc, "revision", Value::String(revision))?)
+}
+
+// Returns the keys of the places from `from` on before `to`, in base64.
+fn keys64(alloc: Global, prefix: &str, from: u64, to: u64) -> Result<Vec<String>, AllocError>
+    requires { from ≤ to }
+    ensures keys { IfOk result (λ keys. KeysFrom prefix.now from (map string_bytes keys.items)) }
+    ensures many { IfOk result (λ keys. from + length (map string_bytes keys.items) ≡ to) }
+{
+    let mut keys = Vec::new(alloc);
+    for place in from..to {
+        keys.push(key64(alloc, prefix, place)?)?;
+    }
+    Ok(keys)
+}
+
+// Makes the request that deletes a key.
+fn delete_of<'a>(alloc: Global, key: &'a str) -> Result<Value<'a>, AllocError>
+    ensures { IfOk result (λ v. value_view v ≡ delete_of key.now) }
+{
+    let key = only(alloc, "key", Value::String(key))?;
+    only(alloc, "request_delete_range", key)
+}
+
+/// What notes the entries that are given up, all in base64.
+#[derive(Clone, Copy)]
+struct Notes<'a> {
+    /// What was noted before is at the keys from `first` on that come before `gone`.
+    first: &'a str,
+    gone: &'a str,
+    value: &'a str,
+}
+
+// Makes the requests that note something in place of what was noted before, and delete these keys.
+fn trim_changes<'a>(
+    alloc: Global,
+    notes: &Notes<'a>,
+    keys: &'a [String],
+) -> Result<Vec<Value<'a>>, AllocError>
+    ensures { IfOk result (λ vs. map value_view vs.items ≡ trim_changes notes.now.first.now notes.now.gone.now notes.now.value.now (map string_bytes keys.now)) }
+{
+    let older = only(
+        alloc,
+        "request_delete_range",
+        range(alloc, notes.first, notes.gone)?,
+    )?;
+    let note = only(alloc, "request_put", pair(alloc, notes.gone, notes.value)?)?;
+    let mut changes = vec![in alloc; older, note]?;
+    for key in keys {
+        changes.push(delete_of(alloc, key.as_str())?)?;
+    }
+    Ok(changes)
+}
+
+// Makes the two conditions that a key stands, and none from `above` on that comes before `end`.
+fn latest<'a>(
+    alloc: Global,
+    stands: &'a str,
+    above: &'a str,
+    end: &'a str,
+) -> Result<Value<'a>, AllocError>
+    ensures { IfOk result (λ v. value_view v ≡ both (created stands.now) (none_created above.now end.now)) }
+{
+    let stood = created(alloc, stands)?;
+    both(alloc, stood, none_created(alloc, above, end)?)
+}
+
+// Makes the transaction that gives entries up if all conditions of a list hold.
+fn trimming<'a>(
+    alloc: Global,
+    compared: Value<'a>,
+    notes: &Notes<'a>,
+    keys: &'a [String],
+) -> Result<Value<'a>, AllocError>
+    ensures { IfOk result (λ v. value_view v ≡ trim_if (value_view compared.entry)
+        (trim_changes notes.now.first.now notes.now.gone.now notes.now.value.now (map string_bytes keys.now))) }
+{
+    let changes = trim_changes(alloc, notes, keys)?;
+    object_of(
+        alloc,
+        [("compare", compared), ("success", Value::Array(changes))],
+    )
+}
+
+// Returns the text of the transaction that gives entries up if the key `stands` does, and none from `above` on that comes
+// before `end`.
+fn text_of_trim<'a>(
+    alloc: Global,
+    stands: &'a str,
+    above: &'a str,
+    end: &'a str,
+    notes: &Notes<'a>,
+    keys: &'a [String],
+) -> Result<Vec<u8>, AllocError>
+    ensures { IfOk result (λ text. document text.items ≡ Some (trim_request stands.now above.now end.now
+        (trim_changes notes.now.first.now notes.now.gone.now notes.now.value.now (map string_bytes keys.now)))) }
+{
+    let compared = latest(alloc, stands, above, end)?;
+    to_vec(alloc, &trimming(alloc, compared, notes, keys)?)
+}
+
+/// Returns the text of the request that gives up the entries below a place, but the first: it notes the place, and deletes
+/// the entries from `from` on before `to`.
+///
+/// It does so only if an entry is at that place, and no later place was noted.
+///
+/// # Errors
+///
+/// `AllocError`: an allocation failed.
+pub fn trim_text(
+    alloc: Global,
+    prefix: &str,
+    place: u64,
+    from: u64,
+    to: u64,
+) -> Result<Vec<u8>, AllocError>
+    requires after_first { 1 ≤ from }
+    requires order { from ≤ to }
+    requires within { to ≤ place }
+    ensures { IfOk result (λ text. SaysTrim text.items prefix.now place from to) }
+{
+    let stands = key64(alloc, prefix, place)?;
+    let above = gone_key64(alloc, prefix, place)?;
+    let end = gone_end64(alloc, prefix)?;
+    let first = gone_key64(alloc, prefix, 0)?;
+    let gone = gone_key64(alloc, prefix, place - 1)?;
+    let value = value64(alloc, &places_text(alloc, place, to)?)?;
+    let keys = keys64(alloc, prefix, from, to)?;
+    let notes = Notes {
+        first: first.as_str(),
+        gone: gone.as_str(),
+        value: value.as_str(),
+    };
+    text_of_trim(
+        alloc,
+        stands.as_str(),
+        above.as_str(),
+        end.as_str(),
+        &notes,
+        &keys,
+    )
 }
