@@ -11,9 +11,10 @@ use Rattle.service_log.specs.declared.store_fault.StoreFault.TheVariants as stor
 use Rattle.service_follow.specs.declared.log_fault.LogFault.{LogFault}
 use Rattle.service_follow.specs.declared.log_fault.LogFault.TheVariants as fault
 
--- a log that went back; a store that does not answer may be asked again
+-- a log that went back, or gave up what was to be read next; a store that does not answer may be asked again
 abbrev pub fault_of_store : StoreFault → Option LogFault
 fault_of_store store.WentBack = Some fault.WentBack
+fault_of_store store.Trimmed = Some fault.Trimmed
 fault_of_store store.Memory = None
 fault_of_store store.Lost = None
 fault_of_store store.Wrong = None

@@ -32,6 +32,8 @@ pub enum LogFault {
     Astray,
     /// The log was put back to an older state than was applied.
     WentBack,
+    /// Entries of the log were given up before they were read here. A start reads from the last compaction on.
+    Trimmed,
     /// The store does not answer, as the hall is opened.
     Store(StoreFault),
 }
@@ -84,6 +86,7 @@ impl LogFault {
     {
         match fault {
             StoreFault::WentBack => Some(LogFault::WentBack),
+            StoreFault::Trimmed => Some(LogFault::Trimmed),
             StoreFault::Memory => None,
             StoreFault::Lost => None,
             StoreFault::Wrong => None,
@@ -124,6 +127,7 @@ impl fmt::Display for LogFault {
             LogFault::Full => "the log is full",
             LogFault::Astray => "other lines were taken than learnt",
             LogFault::WentBack => "the log went back",
+            LogFault::Trimmed => "the log was trimmed before it was read here",
             LogFault::Store(fault) => return write!(f, "{fault}"),
         })
     }

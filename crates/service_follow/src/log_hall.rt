@@ -186,7 +186,8 @@ impl<S: Store> LogHall<S> {
     /// Returns the place that is noted in the store, or `None` if there is none or the store did not answer. It is a hint
     /// alone.
     pub(crate) fn hint(&mut self) -> Option<u64>
-        ensures { HasMovedOn S.stands self.old self.new }
+        ensures moved { HasMovedOn S.stands self.old self.new }
+        ensures same { Same (S.stands self.old.store) (S.stands self.new.store) }
     {
         law_of_following::<StayMachine, S>();
         self.store.hint().unwrap_or_default()
@@ -199,6 +200,26 @@ impl<S: Store> LogHall<S> {
     {
         law_of_following::<StayMachine, S>();
         let _ = self.store.put_hint(place);
+    }
+
+    /// Returns the place below which entries were given up, as the store tells, or 0 if none were or it did not answer. It is a
+    /// hint alone.
+    pub(crate) fn trimmed(&mut self) -> u64
+        ensures moved { HasMovedOn S.stands self.old self.new }
+        ensures same { Same (S.stands self.old.store) (S.stands self.new.store) }
+    {
+        law_of_following::<StayMachine, S>();
+        self.store.trimmed().unwrap_or(0)
+    }
+
+    /// Gives up some of the entries below a place, but never the first (`Store::trim`). Returns true if more are to be given
+    /// up. If the store does not answer, the rest is left.
+    pub(crate) fn trim(&mut self, place: u64) -> bool
+        ensures moved { HasMovedOn S.stands self.old self.new }
+        ensures same { Same (S.stands self.old.store) (S.stands self.new.store) }
+    {
+        law_of_following::<StayMachine, S>();
+        self.store.trim(place) == Ok(false)
     }
 
     /// Has the log begin with this line, where nothing stands in it, and reads the line with which it begins; tells whether there is one.

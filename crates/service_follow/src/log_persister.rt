@@ -354,7 +354,8 @@ impl<S: Store, T: Pause> LogPersister<S, T> {
         self.apply_known()
     }
 
-    // Applies all that stands in the log from the place on that is noted in the store, if one is.
+    // Applies all that stands in the log from the place on that is noted in the store, if one is, or a later one below which
+    // entries were given up.
     fn apply_hinted(&mut self) -> Result<(), LogFault>
         ensures other { result ≢ Err LogFault.Token }
         ensures keeps { OnOk result (Keeps (S.stands self.old.log.store) (S.stands self.new.log.store)) }
@@ -362,12 +363,14 @@ impl<S: Store, T: Pause> LogPersister<S, T> {
         ensures config { OnOk result (self.new.log.config ≡ self.old.log.config) }
         ensures terms { self.new.terms ≡ self.old.terms }
     {
-        let place = self.log.hint().unwrap_or(0);
+        let noted = self.log.hint().unwrap_or(0);
+        let place = noted.max(self.log.trimmed());
         self.log.start_at(self.alloc, place)?;
         self.apply_all()
     }
 
-    // Applies all that stands in the log from the first entry on, if nothing is known of the hall.
+    // Applies all that stands in the log, if nothing is known of the hall: from the first entry on, or from the first that
+    // was not given up.
     fn apply_known(&mut self) -> Result<(), LogFault>
         requires { IsAtEnd (S.lacks self.old.log.store) self.old.log.replica.place }
         ensures other { result ≢ Err LogFault.Token }
@@ -380,7 +383,8 @@ impl<S: Store, T: Pause> LogPersister<S, T> {
         if !self.log.is_blind() {
             return Ok(());
         }
-        self.log.start_at(self.alloc, 0)?;
+        let place = self.log.trimmed();
+        self.log.start_at(self.alloc, place)?;
         self.apply_all()?;
         if self.log.is_blind() {
             return Err(LogFault::Astray);

@@ -91,6 +91,9 @@ pub enum HostFailure {
     /// The log was put back to an older state under the server, which answers nothing more.
     #[error("the log went back")]
     WentBack,
+    /// Entries of the log were given up before this server had read them. It answers nothing more.
+    #[error("entries of the log were deleted before this server had read them; start it again: it begins at the last compaction")]
+    Trimmed,
     /// The file of the audit log could not be opened.
     #[error("the file of --log could not be opened: {0}")]
     AuditLog(ErrorKind),
@@ -199,6 +202,7 @@ impl From<LogFault> for HostFailure {
             LogFault::OtherConfig => HostFailure::OtherLog,
             LogFault::OtherTerms(hall, own) => HostFailure::OtherTerms(hall, own),
             LogFault::WentBack => HostFailure::WentBack,
+            LogFault::Trimmed => HostFailure::Trimmed,
             other => HostFailure::Log(other),
         }
     }

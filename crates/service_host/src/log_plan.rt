@@ -21,7 +21,7 @@ const REST: u64 = 50;
 pub struct LogPlan<'a> {
     /// The addresses of the members of etcd, with a comma between them, as `10.0.0.1:2379,10.0.0.2:2379`. No names are looked up.
     pub members: &'a str,
-    /// What each key begins with. It is this hall's alone, and nothing under it is ever deleted.
+    /// What each key begins with. It is this hall's alone, and nobody else deletes anything under it.
     pub prefix: &'a str,
     /// For how many seconds clients wait while no member answers.
     pub patience: u64,

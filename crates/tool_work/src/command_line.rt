@@ -345,7 +345,7 @@ const HOST: Manual = Manual {
         Choice {
             name: "prefix",
             takes: Takes::Text("NAME"),
-            help: "what the keys of the history in etcd begin with; all servers of one hall have the same, and nothing is deleted there",
+            help: "what the keys of the history in etcd begin with; all servers of one hall have the same, and nobody else deletes any there",
         },
         Choice {
             name: "patience",

@@ -1,9 +1,6 @@
--- The hall went on at each turn, and told nothing but compactions.
+-- The hall went on as entries were given up, and then.
 use Rattle.service_follow.proofs.Moves.{told_then}
 use Rattle.service_follow.proofs.compaction.Compaction.compact.Goals as goal
 
-pub loop-preserved : goal.loop-preserved
-loop-preserved g c = told_then g.S.Store.stands _ _ _ _ _ _ c.args.log.now c.loop.log c.turn.new.log c.loop.invariant c.turn.ensures.told
-
-pub returns-in_err-turn : goal.returns-in_err-turn
-returns-in_err-turn g c = record { told = told_then g.S.Store.stands _ _ _ _ _ _ c.args.log.now c.loop.log c.turn.new.log c.loop.invariant c.turn.ensures.told }
+pub returns : goal.returns
+returns g c = record { told = told_then g.S.Store.stands _ _ _ _ _ _ c.args.log.now c.trim.new.log c.compact_when_due.new.log c.trim.ensures.told c.compact_when_due.ensures.told }

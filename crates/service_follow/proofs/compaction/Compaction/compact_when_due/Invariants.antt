@@ -1,5 +1,5 @@
 use Rattle.service_follow.specs.Tellings.{HasToldAlone}
-use Rattle.service_follow.proofs.compaction.Compaction.compact.Given as goal
+use Rattle.service_follow.proofs.compaction.Compaction.compact_when_due.Given as goal
 
 -- the hall went on, and told nothing but compactions
 abbrev pub invariant-loop : goal.invariant-loop
