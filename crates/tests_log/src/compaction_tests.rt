@@ -3,8 +3,9 @@
 use crate::front_tests::{draw_lines, drawn};
 use crate::persister_tests::reported;
 use crate::stay_doubles::{self, FrontEnd, Site, front_end, reading};
-use service_follow::ReplyQueue;
+use service_follow::{LogFault, ReplyQueue};
 use service_hall::{Hall, is_same};
+use service_log::Store;
 use service_loop::Persist;
 use std::alloc::Global;
 
@@ -209,6 +210,47 @@ fn compact_at_rest(site: &Site) -> Option<[u64; 4]> {
 #[test]
 fn entries_without_events_lead_to_compactions(rt: HostRuntime) {
     assert!(rt; compact_refused(&Site::new(rt.alloc())) == Some(true));
+}
+
+/// The place of a log below which entries were given up.
+fn trimmed(site: &Site) -> Option<u64> {
+    match site.log.try_borrow_mut() {
+        Ok(mut log) => log.trimmed().ok(),
+        Err(_) => None,
+    }
+}
+
+/// A log of a front end that compacts, of which entries are given up once later compactions stand for long enough. Tells how many were before, and then.
+fn give_up(site: &Site, front: &mut FrontEnd<'_>) -> Option<(u64, u64)> {
+    begins(site, front)?;
+    asks(site, front, 5 * DUE_ENTRIES)?;
+    let before = trimmed(site)?;
+    for _ in 0..20 {
+        site.pass_second();
+    }
+    asks(site, front, 1)?;
+    Some((before, trimmed(site)?))
+}
+
+/// A front end that was away is told that entries were given up. One that starts by any hint goes on, and so do the others.
+fn outlast_a_trim(site: &Site) -> Option<bool> {
+    let mut away = reading(site, b'c')?;
+    let mut front = resting(site, b'a')?;
+    let (before, then) = give_up(site, &mut front)?;
+    for place in [0, 1, then, then.saturating_add(9), 1_000] {
+        let later = hinted(site, place)?;
+        if later.len() != front.len() || !are_one(later.hall(), front.hall()) {
+            return Some(false);
+        }
+    }
+    asks(site, &mut front, 1)?;
+    let told = reported(site.alloc, &mut away, b"get 1\n");
+    Some(before == 0 && 0 < then && matches!(told, Err(LogFault::Trimmed)))
+}
+
+#[test]
+fn one_that_was_away_for_compactions_is_told_so(rt: HostRuntime) {
+    assert!(rt; outlast_a_trim(&Site::new(rt.alloc())) == Some(true));
 }
 
 #[test]

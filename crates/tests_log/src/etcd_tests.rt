@@ -45,11 +45,15 @@ const SILENT: &[u8] = b"";
 
 const AWAY: &[u8] = b"HTTP/1.1 503 No\r\nContent-Length: 0\r\n\r\n";
 
+// What is noted where all entries below the place 100 were given up, and were deleted before the place 50.
+const GONE: &[u8] = b"HTTP/1.1 200 OK\r\nConnection: close\r\nContent-Length: 123\r\n\r\n\
+        {\"header\":{},\"kvs\":[{\"key\":\"bG9nL2dvbmUAMDAwMDAwMDAwMDAwMDA5OQ==\",\"value\":\"MDAwMDAwMDAwMDAwMDEwMDAwMDAwMDAwMDAwMDAwNTA=\"}]}";
+
 /// Texts, of which each exchange takes the next: for what is put and found; for what stands behind and is read at once; a member that says
-/// nothing and one that does not serve, behind which the next is asked; wrong answers, behind which the one place is asked.
-const TEXTS: [&[u8]; 17] = [
+/// nothing and one that does not serve, behind which the next is asked; wrong answers, behind which the one place is asked, and what was given up.
+const TEXTS: [&[u8]; 19] = [
     WRITTEN, TAKEN, FOUND, FOUND, FOUND_TWO, FOUND_NEXT, FOUND_TWO, SILENT, AWAY, WRITTEN, OTHER,
-    FOUND, TAKEN, FOUND, FOUND, SHORT, NO_LETTER,
+    FOUND, TAKEN, TAKEN, FOUND, FOUND, TAKEN, SHORT, NO_LETTER,
 ];
 
 /// A store over the texts.
@@ -121,9 +125,13 @@ fn an_answer_that_is_cut_is_none(rt: HostRuntime) {
     }
 }
 
-/// What a get answers of the place behind `hi`, where each text is this from then on.
-fn got_behind(alloc: Global, text: &[u8]) -> Result<Result<bool, StoreFault>, AllocError> {
-    let texts = [FOUND, text, text];
+/// What a get answers of the place behind `hi`, where this text is the answer, and that is told of what was given up.
+fn got_behind(
+    alloc: Global,
+    text: &[u8],
+    gone: &[u8],
+) -> Result<Result<bool, StoreFault>, AllocError> {
+    let texts = [FOUND, text, gone];
     let mut etcd = store(alloc, &texts)?;
     let mut entry = Vec::new(alloc);
     let _ = etcd.get(42, &mut entry);
@@ -132,10 +140,41 @@ fn got_behind(alloc: Global, text: &[u8]) -> Result<Result<bool, StoreFault>, Al
 
 #[test]
 fn a_log_that_went_back_is_reported(rt: HostRuntime) {
-    assert!(rt; got_behind(rt.alloc(), FOUND) == Ok(Ok(false)));
-    assert!(rt; got_behind(rt.alloc(), FOUND_TWO) == Ok(Ok(true)));
-    assert!(rt; got_behind(rt.alloc(), TAKEN) == Ok(Err(StoreFault::WentBack)));
-    assert!(rt; got_behind(rt.alloc(), CHANGED) == Ok(Err(StoreFault::WentBack)));
+    assert!(rt; got_behind(rt.alloc(), FOUND, GONE) == Ok(Ok(false)));
+    assert!(rt; got_behind(rt.alloc(), FOUND_TWO, GONE) == Ok(Ok(true)));
+    assert!(rt; got_behind(rt.alloc(), TAKEN, TAKEN) == Ok(Err(StoreFault::WentBack)));
+    assert!(rt; got_behind(rt.alloc(), CHANGED, TAKEN) == Ok(Err(StoreFault::WentBack)));
+}
+
+/// What a get answers of a place where nothing is, where that is told of what was given up; and of what is deleted then.
+fn got_of_none(alloc: Global, place: u64) -> Result<Result<bool, StoreFault>, AllocError> {
+    let texts = [TAKEN, GONE];
+    let mut etcd = store(alloc, &texts)?;
+    let mut entry = Vec::new(alloc);
+    Ok(etcd.get(place, &mut entry))
+}
+
+#[test]
+fn what_was_given_up_is_reported(rt: HostRuntime) {
+    assert!(rt; got_behind(rt.alloc(), TAKEN, GONE) == Ok(Err(StoreFault::Trimmed)));
+    assert!(rt; got_of_none(rt.alloc(), 1) == Ok(Err(StoreFault::Trimmed)));
+    assert!(rt; got_of_none(rt.alloc(), 42) == Ok(Err(StoreFault::Trimmed)));
+    assert!(rt; got_of_none(rt.alloc(), 101) == Ok(Ok(false)));
+    assert!(rt; got_of_none(rt.alloc(), 0) == Ok(Ok(false)));
+}
+
+#[test]
+fn entries_are_given_up_in_parts(rt: HostRuntime) -> Result<(), AllocError> {
+    let texts = [GONE, TAKEN, GONE, WRITTEN, GONE, WRITTEN, GONE, OTHER];
+    let mut etcd = store(rt.alloc(), &texts)?;
+    assert!(rt; etcd.trimmed() == Ok(100));
+    assert!(rt; etcd.trimmed() == Ok(0));
+    assert!(rt; etcd.trim(1) == Ok(true));
+    assert!(rt; etcd.trim(200) == Ok(false));
+    assert!(rt; etcd.trim(150) == Ok(true));
+    assert!(rt; etcd.trim(50) == Ok(true));
+    assert!(rt; etcd.trim(50) == Err(StoreFault::Wrong));
+    Ok(())
 }
 
 #[test]

@@ -107,6 +107,14 @@ impl Store for Lossy {
     fn put_hint(&mut self, place: u64) -> Result<(), StoreFault> {
         self.store.put_hint(place)
     }
+
+    fn trim(&mut self, place: u64) -> Result<bool, StoreFault> {
+        self.store.trim(place)
+    }
+
+    fn trimmed(&mut self) -> Result<u64, StoreFault> {
+        self.store.trimmed()
+    }
 }
 
 /// Patience for so many tries.
@@ -213,6 +221,20 @@ impl Store for SharedLog<'_> {
     fn put_hint(&mut self, place: u64) -> Result<(), StoreFault> {
         match self.log.try_borrow_mut() {
             Ok(mut log) => log.put_hint(place),
+            Err(_) => Err(StoreFault::Lost),
+        }
+    }
+
+    fn trim(&mut self, place: u64) -> Result<bool, StoreFault> {
+        match self.log.try_borrow_mut() {
+            Ok(mut log) => log.trim(place),
+            Err(_) => Err(StoreFault::Lost),
+        }
+    }
+
+    fn trimmed(&mut self) -> Result<u64, StoreFault> {
+        match self.log.try_borrow_mut() {
+            Ok(mut log) => log.trimmed(),
             Err(_) => Err(StoreFault::Lost),
         }
     }

@@ -1,7 +1,7 @@
 //! Replicas over a log in memory.
 
 use crate::log_doubles::{Lossy, Notebook};
-use service_log::{Cause, Group, MemoryStore, Replica, ServeFault, Step, StoreFault};
+use service_log::{Cause, Group, MemoryStore, Put, Replica, ServeFault, Step, Store, StoreFault};
 use std::alloc::{AllocError, Global};
 
 /// A machine to which nothing was applied.
@@ -78,6 +78,66 @@ fn is_poisoned(alloc: Global) -> bool {
         Err(ServeFault::Unknown(Cause::Poisoned)),
     ];
     reported == due && store.len() == 1 && one.is_poisoned() && replies.is_empty()
+}
+
+/// A log of ten entries, of which those below the sixth place were given up, but the first.
+fn trimmed(alloc: Global) -> Option<MemoryStore> {
+    let mut store = MemoryStore::new(alloc);
+    for place in 0..10 {
+        if store.put(place, &[place as u8]) != Ok(Put::Written) {
+            return None;
+        }
+    }
+    if store.trim(6) == Ok(true) {
+        Some(store)
+    } else {
+        None
+    }
+}
+
+/// Whether the places that were given up are taken for good, and the others are as they were.
+fn are_taken_for_good(alloc: Global) -> Option<bool> {
+    let mut store = trimmed(alloc)?;
+    let mut entry = Vec::new(alloc);
+    let got = [
+        store.get(0, &mut entry),
+        store.get(1, &mut entry),
+        store.get(5, &mut entry),
+        store.get(6, &mut entry),
+        store.get(10, &mut entry),
+    ];
+    let put = [store.put(1, b"x"), store.put(5, b"x"), store.put(10, b"x")];
+    let trimmed = [store.trim(4), store.trim(12)];
+    let gone = Err(StoreFault::Trimmed);
+    Some(
+        got == [Ok(true), gone, gone, Ok(true), Ok(false)]
+            && put == [Ok(Put::Taken), Ok(Put::Taken), Ok(Put::Written)]
+            && trimmed == [Ok(true), Err(StoreFault::Gap)]
+            && store.trimmed() == Ok(6),
+    )
+}
+
+/// Whether a replica that is behind is told so, and one that starts at the place goes on.
+fn go_on_behind_a_trim(alloc: Global) -> Option<bool> {
+    let mut store = trimmed(alloc)?;
+    let mut replies = Vec::new(alloc);
+    let mut late = replica(alloc, 0);
+    let mut later = Replica::at(alloc, notebook(alloc, 0), 6);
+    let gone = Cause::Store(StoreFault::Trimmed);
+    Some(
+        late.catch_up(&mut store, 20, &mut replies) == Err(gone)
+            && late.place() == 1
+            && late.serve(&mut store, b"1 a", &mut replies) == Err(ServeFault::Unknown(gone))
+            && later.serve(&mut store, b"1 a", &mut replies) == Ok(())
+            && later.place() == 11
+            && store.len() == 11,
+    )
+}
+
+#[test]
+fn a_place_that_was_given_up_is_taken_for_good(rt: HostRuntime) {
+    assert!(rt; are_taken_for_good(rt.alloc()) == Some(true));
+    assert!(rt; go_on_behind_a_trim(rt.alloc()) == Some(true));
 }
 
 #[test]
