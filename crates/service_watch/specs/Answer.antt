@@ -56,5 +56,17 @@ head_text asked ready len =
     codes "HTTP/1.1 " ++ status_text asked ready ++ codes "\r\nContent-Type: " ++ form_text asked ++ allow_text asked
     ++ codes "\r\nContent-Length: " ++ decimal len ++ codes "\r\nConnection: close\r\n\r\n"
 
+-- what is answered where this is the page
+abbrev pub body_of : Asked → Bool → List ℕ → List ℕ
+body_of asked.Page ready page = page
+body_of asked.Alive ready page = word_text asked.Alive ready
+body_of asked.Ready ready page = word_text asked.Ready ready
+body_of asked.Nowhere ready page = word_text asked.Nowhere ready
+body_of asked.OtherMethod ready page = word_text asked.OtherMethod ready
+body_of asked.Unreadable ready page = word_text asked.Unreadable ready
+
+unfoldable pub answer_of : Asked → Bool → List ℕ → List ℕ
+answer_of asked ready page = head_text asked ready (length (body_of asked ready page)) ++ body_of asked ready page
+
 unfoldable pub answer_text : Asked → Numbers → List ℕ
 answer_text asked n = head_text asked n.ready (length (body_text asked n)) ++ body_text asked n

@@ -1,7 +1,7 @@
 //! What a request is answered.
 
 ghost use Rattle.std.specs.Prelude.{◌≡◌, ◌++◌, OnOk};
-ghost use Rattle.service_watch.specs.Answer.{allow_text, answer_text, body_text, form_text, head_text, status_text, word_text};
+ghost use Rattle.service_watch.specs.Answer.{allow_text, answer_of, answer_text, body_of, body_text, form_text, head_text, status_text, word_text};
 
 use crate::numbers::Numbers;
 use crate::page::put_page;
@@ -126,4 +126,34 @@ pub fn put_answer(
     put_body(asked, numbers, &mut body)?;
     put_head(asked, numbers.ready, body.len(), answer)?;
     answer.extend_from_slice(&body)
+}
+
+// The body of an answer, where this is the page.
+fn body_of<'a>(asked: Asked, ready: bool, page: &'a [u8]) -> &'a [u8]
+    ensures { result.now ≡ body_of asked ready page.now }
+{
+    match asked {
+        Asked::Page => page,
+        Asked::Alive | Asked::Ready | Asked::Nowhere | Asked::OtherMethod | Asked::Unreadable =>
+            text_of(asked, ready).as_bytes(),
+    }
+}
+
+/// Appends what is answered to a request where this is the page, and clients are answered or not.
+///
+/// # Errors
+///
+/// `AllocError`: an allocation failed. A part of the answer may stand there.
+#[tactic(auto, unfolding(crate::specs::Answer::answer_of))]
+pub fn put_answer_of(
+    asked: Asked,
+    ready: bool,
+    page: &[u8],
+    answer: &mut Vec<u8>,
+) -> Result<(), AllocError>
+    ensures { OnOk result (answer.new.items ≡ answer.old.items ++ answer_of asked ready page.now) }
+{
+    let body = body_of(asked, ready, page);
+    put_head(asked, ready, body.len(), answer)?;
+    answer.extend_from_slice(body)
 }

@@ -4,7 +4,7 @@
 //! who ask, at most eight at once: none of their calls waits, each asks once, and each is closed after its answer or ten seconds.
 //!
 //! Promised is the text of the page (`put_page`), which has each number under its name, and the text of each answer (`put_answer`). What a request
-//! asks for, and what sockets carry, is only tested.
+//! asks for, the page of several pools (`put_pages`), and what sockets carry, is only tested.
 //!
 //! From `service_loop/src/watching.rt`:
 //!
@@ -14,7 +14,7 @@
 //!     accepted: loops.accepted,
 //!     ..
 //!     tally: *tally,
-//!     log_age: age_of(tally.log_place, loops.ticks, self.placed),
+//!     log_age: age_of(tally.log_place, loops.ticks, placed),
 //! }
 //! ```
 #![tactic(auto)]
@@ -24,13 +24,15 @@ pub mod durations;
 pub mod listeners;
 pub mod numbers;
 pub mod page;
+pub mod pool_pages;
 pub mod request;
 pub mod scraper;
 pub mod scrapers;
 
-pub use answer::put_answer;
+pub use answer::{put_answer, put_answer_of};
 pub use numbers::{Numbers, REFUSALS, Releases, Tally};
 pub use page::put_page;
+pub use pool_pages::{PoolPage, put_pages};
 pub use request::{Asked, MOST_REQUEST, asked_by};
 pub use scraper::Scraper;
 pub use scrapers::{MOST_SCRAPERS, Scrapers};

@@ -1,6 +1,6 @@
 //! One who asks for a page.
 
-use crate::answer::put_answer;
+use crate::answer::{put_answer, put_answer_of};
 use crate::numbers::Numbers;
 use crate::request::{Asked, MOST_REQUEST, asked_by};
 use mio::event::Event;
@@ -147,6 +147,15 @@ impl Scraper {
         if let Some(asked) = self.asked {
             self.answered = true;
             let put: Result<(), AllocError> = put_answer(alloc, asked, numbers, &mut self.answer);
+            self.over = self.over || put.is_err();
+        }
+    }
+
+    /// Gives it its answer, where this is the page, and clients are answered or not.
+    pub fn answer_by(&mut self, ready: bool, page: &[u8]) {
+        if let Some(asked) = self.asked {
+            self.answered = true;
+            let put: Result<(), AllocError> = put_answer_of(asked, ready, page, &mut self.answer);
             self.over = self.over || put.is_err();
         }
     }

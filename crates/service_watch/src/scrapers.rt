@@ -211,6 +211,17 @@ impl Scrapers {
         }
     }
 
+    /// Answers those who asked, where this is the page, and clients are answered or not.
+    pub fn answer_by(&mut self, ready: bool, page: &[u8]) {
+        for seat in &mut self.seats {
+            if let Some(scraper) = seat {
+                if scraper.wants_answer() {
+                    scraper.answer_by(ready, page);
+                }
+            }
+        }
+    }
+
     /// Sends what waits, as far as the streams take it now, and closes who is over or has been there for two seconds.
     pub fn send(&mut self, tick: u64) {
         for seat in &mut self.seats {
