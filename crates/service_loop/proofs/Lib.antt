@@ -9,6 +9,7 @@ mod Common
 mod GatherLemmas
 mod LosingLemmas
 mod PeekLemmas
+mod PoolLemmas
 mod OwnLemmas
 mod ReportedLemmas
 mod RoundLemmas

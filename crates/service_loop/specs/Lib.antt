@@ -20,6 +20,8 @@ pub mod Taking
 pub mod Waiting
 pub mod Keepers
 pub mod Attendance
+pub mod PoolLines
+pub mod Pools
 pub mod Sendings
 pub mod Table
 pub mod Watching

@@ -41,7 +41,8 @@ use service_watch::listeners::Listeners;
 use service_watch::{Scrapers, Tally};
 use std::alloc::{AllocError, Global};
 use std::io::{self, ErrorKind, Write};
-use std::net::Net;
+use std::net::{Net, SocketAddr};
+use std::os::fd::{AsRawFd, RawFd};
 use std::rt::Clock;
 use std::sync::Wait;
 use std::time::{Duration, Instant};
@@ -55,6 +56,10 @@ const EVENTS: usize = 1024;
 
 /// The most connections that are accepted in one turn.
 const MOST_ACCEPTS: u32 = 1024;
+
+/// What is said once where the system has no room for one more connection.
+pub(crate) const FULL: &[u8] =
+    b"slotctl: no room for more connections; those that wait are accepted as others leave\n";
 
 /// How many seconds pass from one report to the next; the first is due at once.
 const REPORT_TICKS: u64 = 60;
@@ -100,7 +105,7 @@ pub struct Hosted {
 }
 
 /// A server under way.
-struct Hosting {
+pub(crate) struct Hosting {
     alloc: Global,
     options: HostOptions,
     poll: Poll,
@@ -116,6 +121,10 @@ struct Hosting {
     /// How many seconds were counted, and at which count the next report is due.
     tick: u64,
     report: u64,
+    /// Whether it is one of several, and others wait for the system: it never waits itself.
+    within: bool,
+    /// Whether the system told anything when it was last asked.
+    told: bool,
     /// Whether one could not be accepted, until one leaves.
     full: bool,
     /// Whether it was said that one could not be accepted.
@@ -162,6 +171,8 @@ impl Drop for Hosting {
             second: _,
             tick: _,
             report: _,
+            within: _,
+            told: _,
             full: _,
             said: _,
             lost: _,
@@ -239,13 +250,13 @@ where
     hosting.tell_end(output)
 }
 
-// A poll that tells of standard input when it ends.
-fn new_poll<R: Net>(rt: &R) -> io::Result<Poll> {
+/// A poll that tells under this token of standard input when it ends.
+pub(crate) fn new_poll<R: Net>(rt: &R, stopper: Token) -> io::Result<Poll> {
     let poll = Poll::new(rt)?;
     // A file or the null device cannot be waited for, and never stops the server.
     let _ = poll
         .registry()
-        .register(&mut SourceFd(&0), STOPPER, Interest::READABLE);
+        .register(&mut SourceFd(&0), stopper, Interest::READABLE);
     Ok(poll)
 }
 
@@ -262,10 +273,13 @@ fn watch_at(
 }
 
 // What a server waits on, and who comes in there.
+#[derive(Drop)]
 struct Entrance {
     poll: Poll,
     doors: Doors,
     watch: Option<Watch>,
+    /// Whether others wait for the system, and let in who comes.
+    within: bool,
 }
 
 // Waits on listeners.
@@ -275,10 +289,27 @@ fn enter_at<R: Net>(rt: &R, alloc: Global, listeners: Listeners) -> io::Result<E
         local,
         metrics,
     } = listeners;
-    let poll = new_poll(rt)?;
+    let poll = new_poll(rt, STOPPER)?;
     let doors = Doors::new(&poll, network, local)?;
     let watch = watch_at(alloc, &poll, metrics)?;
-    Ok(Entrance { poll, doors, watch })
+    Ok(Entrance {
+        poll,
+        doors,
+        watch,
+        within: false,
+    })
+}
+
+// Waits for the connections that others let in.
+fn enter_within<R: Net>(rt: &R) -> io::Result<Entrance> {
+    let poll = Poll::new(rt)?;
+    let doors = Doors::new(&poll, None, None)?;
+    Ok(Entrance {
+        poll,
+        doors,
+        watch: None,
+        within: true,
+    })
 }
 
 // Whether an event is of those who watch, and noted then.
@@ -298,11 +329,48 @@ impl Hosting {
         listeners: Listeners,
         most_prefetched: Option<usize>,
     ) -> Result<Hosting, HostFault<F>> {
+        let entrance = enter_at(rt, alloc, listeners)?;
+        let teller = Teller::new(rt, alloc)?;
+        Hosting::entered(rt, alloc, options, entrance, teller, most_prefetched)
+    }
+
+    /// One of several, of this name: others wait for the system, and let in who comes.
+    ///
+    /// # Errors
+    ///
+    /// - `Memory`: an allocation failed.
+    /// - `Network`: what the system says.
+    pub(crate) fn within<R: Net + Clock, F>(
+        rt: &R,
+        alloc: Global,
+        options: HostOptions,
+        name: String,
+        most_prefetched: Option<usize>,
+    ) -> Result<Hosting, HostFault<F>> {
+        let entrance = enter_within(rt)?;
+        let teller = Teller::named(rt, alloc, name)?;
+        Hosting::entered(rt, alloc, options, entrance, teller, most_prefetched)
+    }
+
+    // Listens there.
+    fn entered<R: Clock, F>(
+        rt: &R,
+        alloc: Global,
+        options: HostOptions,
+        entrance: Entrance,
+        teller: Teller,
+        most_prefetched: Option<usize>,
+    ) -> Result<Hosting, HostFault<F>> {
         let start = Instant::now(rt)?;
         let Ok(events) = Events::with_capacity(alloc, EVENTS) else {
             return Err(HostFault::Memory);
         };
-        let Entrance { poll, doors, watch } = enter_at(rt, alloc, listeners)?;
+        let Entrance {
+            poll,
+            doors,
+            watch,
+            within,
+        } = entrance;
         let batch = match most_prefetched {
             Some(most) => Some(Batch::new(alloc, options.kind, most)),
             None => None,
@@ -319,6 +387,8 @@ impl Hosting {
             second: 0,
             tick: 0,
             report: 0,
+            within,
+            told: false,
             full: false,
             said: false,
             lost: false,
@@ -331,15 +401,44 @@ impl Hosting {
             looks: false,
             rotates: false,
             said_unwritten: false,
-            teller: Teller::new(rt, alloc)?,
+            teller,
             said_trouble: false,
             said_tenths: 0,
             watch,
         })
     }
 
+    /// The file descriptor by which others wait until the system has something to tell of it.
+    pub(crate) fn descriptor(&self) -> RawFd {
+        self.poll.as_raw_fd()
+    }
+
+    /// It is to end: what waits is sent for some rounds more.
+    pub(crate) fn stop(&mut self)
+        ensures { self.new.options ≡ self.old.options }
+    {
+        self.stop = true;
+    }
+
+    /// How many connections it has.
+    pub(crate) fn clients(&self) -> usize
+        ensures { result ≡ self.now.connections.«open» }
+    {
+        self.connections.open
+    }
+
+    /// How many connections it has had.
+    pub(crate) fn accepted(&self) -> u64 {
+        self.connections.accepted()
+    }
+
+    /// Whether another round has something to do, with nothing more told by the system.
+    pub(crate) fn is_due(&self) -> bool {
+        self.told || self.stop || self.is_busy()
+    }
+
     // Once round: waits, accepts, has the persister go on, serves, and tells what was done, and how much there is where that is due or asked.
-    fn go_round<R: Clock, D: Service<R>, K: Persist<D>, L: AuditLog, E: Write>(
+    pub(crate) fn go_round<R: Clock, D: Service<R>, K: Persist<D>, L: AuditLog, E: Write>(
         &mut self,
         rt: &R,
         wide: bool,
@@ -420,8 +519,8 @@ impl Hosting {
         self.serve_watchers(service, persister);
     }
 
-    // Whether it is to end, and nothing waits to be sent or what waits had its time. Is asked once a round.
-    fn is_over(&mut self) -> bool {
+    /// Whether it is to end, and nothing waits to be sent or what waits had its time. Is asked once a round.
+    pub(crate) fn is_over(&mut self) -> bool {
         if !self.stop {
             return false;
         }
@@ -464,9 +563,9 @@ impl Hosting {
             || self.watch.is_some()
     }
 
-    // For how long nothing need be done: a tenth of a second at the end, no time where anything is due, a second where seconds are to be
-    // counted, else twenty.
-    fn next_wait(&self) -> Duration {
+    /// For how long nothing need be done: a tenth of a second at the end, no time where anything is due, a second where seconds are to be
+    /// counted, else twenty.
+    pub(crate) fn next_wait(&self) -> Duration {
         if self.stop {
             Duration::from_millis(100)
         } else if self.is_busy() {
@@ -481,7 +580,12 @@ impl Hosting {
     // Waits, and notes what the system tells. Who says nothing is closed only where all that the system has to tell was noted: a wait that
     // was interrupted tells nothing, and one that tells as much as there is room for may leave something untold.
     fn wait<R: Clock, F>(&mut self, rt: &R, audit: &mut Audit) -> Result<(), HostFault<F>> {
-        self.note_events(self.next_wait())?;
+        let most = if self.within {
+            Duration::from_millis(0)
+        } else {
+            self.next_wait()
+        };
+        self.told = self.note_events(most)?;
         self.note_tick(rt)?;
         audit.note_time(rt);
         if self.sweeps && !self.note_events(Duration::from_millis(0))? {
@@ -835,17 +939,33 @@ impl Hosting {
         ensures one { self.new.connections.«open» ≤ self.old.connections.«open» + 1 }
     {
         match self.doors.accept() {
-            Accepted::Stream(stream, peer) => {
-                let kind = self.options.kind;
-                let admitted = self
-                    .connections
-                    .admit(self.alloc, &self.poll, kind, stream, self.tick)?;
-                if let Some(number) = admitted {
-                    audit.admit(number, peer)?;
-                }
-            }
+            Accepted::Stream(stream, peer) => self.welcome(stream, peer, audit)?,
             Accepted::Nobody => {}
             Accepted::Full => self.full = true,
+        }
+        Ok(())
+    }
+
+    /// Lets in one connection, from this address where it is of the network.
+    ///
+    /// # Errors
+    ///
+    /// `AllocError`: an allocation failed. The stream is closed.
+    pub(crate) fn welcome(
+        &mut self,
+        stream: Socket,
+        peer: Option<SocketAddr>,
+        audit: &mut Audit,
+    ) -> Result<(), AllocError>
+        ensures options { self.new.options ≡ self.old.options }
+        ensures one { self.new.connections.«open» ≤ self.old.connections.«open» + 1 }
+    {
+        let kind = self.options.kind;
+        let admitted = self
+            .connections
+            .admit(self.alloc, &self.poll, kind, stream, self.tick)?;
+        if let Some(number) = admitted {
+            audit.admit(number, peer)?;
         }
         Ok(())
     }
@@ -854,10 +974,7 @@ impl Hosting {
     fn tell_full<E: Write>(&mut self, errors: &mut E) {
         if self.full && !self.said {
             self.said = true;
-            self.teller.tell(
-                b"slotctl: no room for more connections; those that wait are accepted as others leave\n",
-                errors,
-            );
+            self.teller.tell(FULL, errors);
         }
     }
 
@@ -959,8 +1076,8 @@ impl Hosting {
         Ok(())
     }
 
-    // What the loop itself knows.
-    fn numbers(&self, audit: &Audit) -> LoopNumbers
+    /// What the loop itself knows.
+    pub(crate) fn numbers(&self, audit: &Audit) -> LoopNumbers
         ensures clients { (result.clients ≡ self.now.connections.«open») ×
             (result.accepted ≡ capped (self.now.connections.served + self.now.connections.«open»)) }
         ensures faults { result.faults ≡ self.now.connections.faults }
@@ -1006,8 +1123,8 @@ impl Hosting {
     }
 }
 
-// Writes a line, where there was memory for it.
-fn put_line<W: Write, F>(
+/// Writes a line, where there was memory for it.
+pub(crate) fn put_line<W: Write, F>(
     line: Result<String, AllocError>,
     output: &mut W,
 ) -> Result<(), HostFault<F>> {

@@ -28,6 +28,9 @@
 //! (`WasAttended`): from its start to its end nothing else was done than such turns, each said of the numbers of its connections; what was heard
 //! of connections that ended, at a tick; and what was done to end the stays that are due then (`law_of_hosted_grace`).
 //!
+//! `host_pools` is a server of several pools (`HostedPool`): a client chooses one by its first line (`Porch`). Its theorem (`PoolsWereAttended`): nothing else
+//! was done to each pool than `host` does.
+//!
 //! What was taken, given back and refused is counted, and told of in lines where a log of them is wanted (`Audit`, `AuditLog`).
 //!
 //! Not promised, and shown by running it: what an audit tells, that a connection that is due has its turn soon, and what sockets carry.
@@ -65,8 +68,12 @@ pub mod host_fault;
 pub mod hosting;
 pub mod laws;
 mod losing;
+mod newcomer;
 pub mod peek;
 pub mod persist;
+pub mod pool_line;
+pub mod pools;
+mod porch;
 pub mod releasing;
 mod searching;
 pub mod seat_numbers;
@@ -94,6 +101,8 @@ pub use hosting::{HostOptions, Hosted, host};
 pub use laws::{law_of_cut_lines, law_of_hosted_grace, law_of_the_queue};
 pub use peek::Peek;
 pub use persist::{Persist, Prefetch};
+pub use pool_line::is_pool_name;
+pub use pools::{HostedPool, host_pools};
 pub use releasing::{end_due, law_of_releases, release, release_all};
 pub use seat_numbers::SeatNumbers;
 pub use service_watch::Tally;

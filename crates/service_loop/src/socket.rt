@@ -39,6 +39,18 @@ impl Socket {
         }
     }
 
+    /// Has a poll tell nothing of it any more.
+    ///
+    /// # Errors
+    ///
+    /// What the system says.
+    pub fn deregister(&mut self, poll: &Poll) -> io::Result<()> {
+        match self {
+            Socket::Network(stream) => poll.registry().deregister(stream),
+            Socket::Local(stream) => poll.registry().deregister(stream),
+        }
+    }
+
     /// Says to the other side that no more is sent.
     pub fn end(&self) {
         let _ = match self {

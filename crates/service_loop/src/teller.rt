@@ -15,12 +15,18 @@ const STANDARD_ERROR: i32 = 2;
 pub struct Teller {
     poll: Poll,
     events: Events<Global>,
+    /// Of which pool it tells, where there are several.
+    name: Option<String>,
 }
 
 // By hand, so that a teller is taken apart here alone.
 impl Drop for Teller {
     fn drop(self) {
-        let Teller { poll: _, events: _ } = self;
+        let Teller {
+            poll: _,
+            events: _,
+            name: _,
+        } = self;
     }
 }
 
@@ -34,7 +40,19 @@ impl Teller {
         Ok(Teller {
             poll: Poll::new(rt)?,
             events: Events::with_capacity(alloc, 1)?,
+            name: None,
         })
+    }
+
+    /// A teller of the pool of this name: `pool NAME: ` stands before each line.
+    ///
+    /// # Errors
+    ///
+    /// Those of `new`.
+    pub fn named<R: Net>(rt: &R, alloc: Global, name: String) -> io::Result<Teller> {
+        let mut teller = Teller::new(rt, alloc)?;
+        teller.name = Some(name);
+        Ok(teller)
     }
 
     // Whether standard error takes a line at once. What cannot be waited for, as a file, takes all at once.
@@ -56,8 +74,12 @@ impl Teller {
 
     /// Writes a line, of 4,096 bytes at most, into what stands for standard error.
     pub fn tell<E: Write>(&mut self, line: &[u8], errors: &mut E) {
-        if self.takes_line() {
-            let _ = errors.write_all(line);
+        if !self.takes_line() {
+            return;
         }
+        if let Some(name) = &self.name {
+            let _ = write!(errors, "pool {name}: ");
+        }
+        let _ = errors.write_all(line);
     }
 }

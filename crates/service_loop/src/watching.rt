@@ -72,6 +72,25 @@ fn age_of(place: Option<u64>, tick: u64, placed: u64) -> Option<u64>
     }
 }
 
+/// What those who ask get, where the place of the log came at this tick.
+pub fn numbers_of(loops: &LoopNumbers, tally: &Tally, placed: u64) -> Numbers
+    ensures { result ≡ numbers_of loops.now tally.now placed }
+{
+    Numbers {
+        clients: loops.clients,
+        accepted: loops.accepted,
+        faults: loops.faults,
+        lines: loops.lines,
+        ticks: loops.ticks,
+        releases: loops.releases,
+        refusals: loops.refusals,
+        audit_lines_lost: loops.audit_lines_lost,
+        ready: loops.learnt && may_answer(tally.log_answers),
+        tally: *tally,
+        log_age: age_of(tally.log_place, loops.ticks, placed),
+    }
+}
+
 impl Watch {
     /// By those who ask.
     pub fn new(scrapers: Scrapers) -> Watch {
@@ -123,18 +142,6 @@ impl Watch {
     pub fn numbers(&self, loops: &LoopNumbers, tally: &Tally) -> Numbers
         ensures { result ≡ numbers_of loops.now tally.now self.now.placed }
     {
-        Numbers {
-            clients: loops.clients,
-            accepted: loops.accepted,
-            faults: loops.faults,
-            lines: loops.lines,
-            ticks: loops.ticks,
-            releases: loops.releases,
-            refusals: loops.refusals,
-            audit_lines_lost: loops.audit_lines_lost,
-            ready: loops.learnt && may_answer(tally.log_answers),
-            tally: *tally,
-            log_age: age_of(tally.log_place, loops.ticks, self.placed),
-        }
+        numbers_of(loops, tally, self.placed)
     }
 }

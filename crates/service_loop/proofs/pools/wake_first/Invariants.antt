@@ -1,0 +1,5 @@
+use Rattle.service_loop.specs.Pools.{AreSamePools}
+use Rattle.service_loop.proofs.pools.wake_first.Given as goal
+
+abbrev pub invariant-loop-at : goal.invariant-loop-at
+invariant-loop-at g l = record { same : AreSamePools l.fn.pools l.pools }
