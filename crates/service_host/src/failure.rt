@@ -97,6 +97,18 @@ pub enum HostFailure {
     /// The file of the audit log could not be opened.
     #[error("the file of --log could not be opened: {0}")]
     AuditLog(ErrorKind),
+    /// The file that lists the pools could not be read.
+    #[error("the file of --pools could not be read: {0}")]
+    Pools(ErrorKind),
+    /// The line of this number of the file that lists the pools lists none, or one that is listed before.
+    #[error("the file of --pools: line {0} is not NAME NUMBERS, and then nothing, forever, or the seconds of its grace time; or it names a pool again")]
+    PoolLine(u64),
+    /// The file that lists the pools lists none.
+    #[error("the file of --pools lists no pool")]
+    NoPools,
+    /// Several pools were asked for, over a log.
+    #[error("--pools is for journals: over etcd each pool has a server of its own, since each waits for etcd")]
+    PoolsOverLog,
     /// The members of the log did not answer, or the log failed.
     #[error("log fault: {0}")]
     Log(LogFault),

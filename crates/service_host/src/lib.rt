@@ -5,6 +5,8 @@
 //! the program. `Reading` has the rules of either (`Rules`): whether the history stores reads, and what clients may ask for. Where a log in etcd is named (`LogPlan`), the hall is served over
 //! that (`service_follow`), and other servers share it. `AuditFile` is the file to which the lines of an audit are appended, where one is named.
 //!
+//! Where a file lists pools (`pools_of`), each is hosted so, in one thread (`host_pools` of `service_loop`).
+//!
 //! The theorem (`law_of_hosting`): after a turn of the loop over a write-ahead hall and its journal all turns of all connections were answered
 //! as is due in one order. The history has gained just their accepted events, plain reads and what is barred aside; header and journal are its record and are
 //! synced; each connection was sent the replies to its own lines, and what a crash leaves then has each event that was stored and answered.
@@ -31,6 +33,8 @@ pub mod keepers;
 pub mod laws;
 pub mod log_plan;
 pub mod persisters;
+pub mod pool_file;
+mod pools;
 pub mod reading;
 pub mod sizes;
 pub mod start;
@@ -45,6 +49,7 @@ pub use holders::write_holders;
 pub use laws::{law_of_hosted_journals, law_of_hosting};
 pub use log_plan::LogPlan;
 pub use persisters::{Recorded, Unrecorded};
+pub use pool_file::{PoolPlan, pools_of};
 pub use reading::Reading;
 pub use sizes::{Sizing, choose_sizing};
 pub use start::{HostPlan, Keeping, export_hall, host_hall};

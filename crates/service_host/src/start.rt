@@ -12,6 +12,7 @@ use crate::holders::config_of;
 use crate::keepers::stays_at_start;
 use crate::log_plan::{LogPlan, MEMBER_SECONDS, Patience, members_of};
 use crate::persisters::{Recorded, Unrecorded};
+use crate::pools::host_pool_file;
 use crate::reading::Reading;
 use crate::sizes::are_alike_but_size;
 use crate::terms::{Opening, followed, terms_by, warn_of_none};
@@ -68,13 +69,15 @@ pub struct HostPlan<'a> {
     pub keeping: Keeping<'a>,
     /// Whether a line at first and then one a minute tells how much there is.
     pub reports: bool,
-    /// The file to which a log of an audit is appended, where one is wanted.
+    /// The file to which a log of an audit is appended, where one is wanted; where there are several pools, the folder of such files, one for each.
     pub log: Option<&'a str>,
+    /// The file that lists the pools, where there are several (`pools_of`). Then `keeping` names the folder of their journals.
+    pub pools: Option<&'a str>,
 }
 
 impl HostPlan<'_> {
-    // What the loop serves, over a hall of this world.
-    fn options(&self, kind: WorldKind) -> HostOptions {
+    /// What the loop serves, over a hall of this world.
+    pub(crate) fn options(&self, kind: WorldKind) -> HostOptions {
         HostOptions {
             kind,
             clients: self.clients,
@@ -93,8 +96,8 @@ impl HostPlan<'_> {
         }
     }
 
-    // What is told of numbers and refusals.
-    fn audit(&self, alloc: Global) -> Audit {
+    /// What is told of numbers and refusals.
+    pub(crate) fn audit(&self, alloc: Global) -> Audit {
         Audit::new(alloc, self.log.is_some())
     }
 }
@@ -167,8 +170,8 @@ fn reopened<D: Disk>(
     Ok(Journal::open(alloc, disk, made)?)
 }
 
-// Opens the journal of a path, or makes it where it is to be new. One that another server has is refused.
-fn open_journal<R: Clock + Files<File = File> + AllocGlobal + Copy + Drop>(
+/// Opens the journal of a path, or makes it where it is to be new. One that another server has is refused.
+pub(crate) fn open_journal<R: Clock + Files<File = File> + AllocGlobal + Copy + Drop>(
     rt: &R,
     alloc: Global,
     config: Config,
@@ -207,8 +210,8 @@ where
     }
 }
 
-// What serves a hall that was read of a journal: it is compacted before where it is long, and widened where the plan asks for more numbers.
-fn recorded<R, D: Disk, E: Write>(
+/// What serves a hall that was read of a journal: it is compacted before where it is long, and widened where the plan asks for more numbers.
+pub(crate) fn recorded<R, D: Disk, E: Write>(
     rt: &R,
     alloc: Global,
     plan: &HostPlan<'_>,
@@ -433,8 +436,8 @@ fn export_followed<R: Files<File = File>, S: Store + Drop, P: Pause + Drop, W: W
     }
 }
 
-// The file of an audit log, where one is named.
-fn open_audit<'a, R: Files<File = File>>(
+/// The file of an audit log, where one is named.
+pub(crate) fn open_audit<'a, R: Files<File = File>>(
     rt: &'a R,
     path: Option<&'a str>,
 ) -> Result<Option<AuditFile<'a, R>>, ErrorKind> {
@@ -456,6 +459,8 @@ fn open_audit<'a, R: Files<File = File>>(
 /// Where a log is named, the hall is that of all that stands in it, by whichever server of the hall it came there, and each reply is sent
 /// once its line stands there. Clients wait while the members do not answer, and are closed once the plan's patience ends.
 ///
+/// Where a file lists pools, each is such a hall, with a journal of its own, and clients choose one by their first line (`host_pool_file`).
+///
 /// The first lines written are `listening ADDRESS:PORT` and `listening PATH`, of what is listened on, and `metrics ADDRESS:PORT`; the last is
 /// `served N`. At a good end the file of the socket is removed. Where the journal cannot be written, nothing is sent of that
 /// turn, and the server ends.
@@ -475,6 +480,9 @@ pub fn host_hall<R, W: Write, E: Write>(
 where
     R: Net + Wait + Clock + Files<File = File> + AllocGlobal + Copy + Drop,
 {
+    if let Some(file) = plan.pools {
+        return host_pool_file(rt, alloc, plan, file, output, errors);
+    }
     let mut audit = match open_audit(rt, plan.log) {
         Ok(audit) => audit,
         Err(why) => return Err(HostFailure::AuditLog(why)),

@@ -183,6 +183,7 @@ fn host_plan_of<'a>(hosting: Hosting<'a>, seen: bool) -> HostPlan<'a> {
         keeping: keeping_of(hosting.keeping),
         reports: hosting.verbose || seen,
         log: hosting.log,
+        pools: hosting.pools,
     }
 }
 

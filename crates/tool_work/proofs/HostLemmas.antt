@@ -146,13 +146,13 @@ hall_made rows asked w m k limit (Err e) names by_size has_m has_k has_limit val
     cc
 
 -- what is made of the matched values is the hosting, where there is one
-pub hosted : (rows : List Row) (c : Config) (admissions : Admissions) (endpoints : Endpoints) (clients idle : ℕ) (holding : Holding) (stores : Bool) (keeping : Keeping) (verbose : Bool) (log : Option (Bor (List ℕ))) (o : Option Hosting)
+pub hosted : (rows : List Row) (c : Config) (admissions : Admissions) (endpoints : Endpoints) (clients idle : ℕ) (holding : Holding) (stores : Bool) (keeping : Keeping) (verbose : Bool) (log pools : Option (Bor (List ℕ))) (o : Option Hosting)
     → IsHallOf rows c → AreAdmitted rows admissions → AreEndpointsOf rows endpoints → HasNumber rows (codes "clients") clients → IsIdleOf rows holding idle
-    → IsHoldingOf rows holding → StoreReads rows stores → IsKeepingOf rows keeping → verbose ≡ asks_flag (codes "verbose") rows → HasText rows (codes "log") log
-    → IfSome o (λ h. (h.config ≡ c) × (h.clients ≡ clients) × (h.idle ≡ idle)) → IfSome o (λ h. (h.endpoints ≡ endpoints) × (h.keeping ≡ keeping) × (h.verbose ≡ verbose) × (h.holding ≡ holding) × (h.stores_reads ≡ stores)) → IfSome o (λ h. h.log ≡ log) → IfSome o (λ h. h.admissions ≡ admissions)
+    → IsHoldingOf rows holding → StoreReads rows stores → IsKeepingOf rows keeping → verbose ≡ asks_flag (codes "verbose") rows → HasText rows (codes "log") log → HasText rows (codes "pools") pools
+    → IfSome o (λ h. (h.config ≡ c) × (h.clients ≡ clients) × (h.idle ≡ idle)) → IfSome o (λ h. (h.endpoints ≡ endpoints) × (h.keeping ≡ keeping) × (h.verbose ≡ verbose) × (h.holding ≡ holding) × (h.stores_reads ≡ stores)) → IfSome o (λ h. (h.log ≡ log) × (h.pools ≡ pools)) → IfSome o (λ h. h.admissions ≡ admissions)
     → (IsSome o ↔ IsHostingRange c.world clients idle) → idle < 2 ^ 64
     → MatchOption o ((h : Hosting) → IsHostingOf rows h → ⊥) (IsHostingOf rows)
-hosted rows c admissions endpoints clients idle holding stores keeping verbose log (Some h) config has_admissions has_endpoints has_clients has_idle has_holding has_reads has_keeping asks has_log sizes others logs admits range small = record {
+hosted rows c admissions endpoints clients idle holding stores keeping verbose log pools (Some h) config has_admissions has_endpoints has_clients has_idle has_holding has_reads has_keeping asks has_log has_pools sizes others logs admits range small = record {
   config = subst (λ (x : Config). IsHallOf rows x) (sym sizes.0) config;
   admissions = subst (λ (x : Admissions). AreAdmitted rows x) (sym admits) has_admissions;
   endpoints = subst (λ (x : Endpoints). AreEndpointsOf rows x) (sym others.0) has_endpoints;
@@ -160,11 +160,12 @@ hosted rows c admissions endpoints clients idle holding stores keeping verbose l
   idle = subst (λ (x : Holding). IsIdleOf rows x h.idle) (sym others.3) (subst (λ (x : ℕ). IsIdleOf rows holding x) (sym sizes.2) has_idle);
   keeping = subst (λ (x : Keeping). IsKeepingOf rows x) (sym others.1) has_keeping;
   verbose = others.2 ∙ asks;
-  log = subst (λ (x : Option (Bor (List ℕ))). HasText rows (codes "log") x) (sym logs) has_log;
+  log = subst (λ (x : Option (Bor (List ℕ))). HasText rows (codes "log") x) (sym logs.0) has_log;
+  pools = subst (λ (x : Option (Bor (List ℕ))). HasText rows (codes "pools") x) (sym logs.1) has_pools;
   holding = subst (λ (x : Holding). IsHoldingOf rows x) (sym others.3) has_holding;
   reads = subst (λ (x : Bool). StoreReads rows x) (sym others.4) has_reads;
 }
-hosted rows c admissions endpoints clients idle holding stores keeping verbose log None config has_admissions has_endpoints has_clients has_idle has_holding has_reads has_keeping asks has_log sizes others logs admits range small = λ h is.
+hosted rows c admissions endpoints clients idle holding stores keeping verbose log pools None config has_admissions has_endpoints has_clients has_idle has_holding has_reads has_keeping asks has_log has_pools sizes others logs admits range small = λ h is.
     let same_clients : h.clients ≡ clients = same_number rows (codes "clients") h.clients clients is.clients has_clients in
     let same_idle : h.idle ≡ idle = same_idle_by rows h.holding holding h.idle idle is.holding has_holding (let fits = h.in_range in omega arith) small is.idle has_idle in
     let same_kind : h.config.world ≡ c.world = same_hall rows h.config c is.config config in

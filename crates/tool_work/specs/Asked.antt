@@ -221,6 +221,7 @@ pub record IsHostingOf (rows : List Row) (h : Hosting) : Type 0 where
   pub keeping : IsKeepingOf rows h.keeping
   pub verbose : h.verbose ≡ asks_flag (codes "verbose") rows
   pub log : HasText rows (codes "log") h.log
+  pub pools : HasText rows (codes "pools") h.pools
 
 -- the subcommand that asks for this
 abbrev pub subcommand_name : Ask → List ℕ

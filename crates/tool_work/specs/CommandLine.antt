@@ -132,7 +132,7 @@ host_app = with_options (codes "host") (text_option (codes "world") ∷ m_option
     ∷ some_number_option (codes "metrics") 0 65535 ∷ chosen_option (codes "metrics-address") (codes "127.0.0.1") ∷ number_option (codes "clients") 1 1000000 (codes "10000")
     ∷ some_number_option (codes "idle") 0 31536000 ∷ chosen_option (codes "hold") (codes "forever") ∷ some_number_option (codes "grace") 1 86400
     ∷ chosen_option (codes "reads") (codes "plain") ∷ text_option (codes "journal") ∷ flag (codes "new") ∷ text_option (codes "etcd") ∷ text_option (codes "prefix")
-    ∷ number_option (codes "patience") 1 3600 (codes "10") ∷ flag (codes "export") ∷ flag (codes "change-terms") ∷ flag (codes "verbose") ∷ text_option (codes "log") ∷ [])
+    ∷ number_option (codes "patience") 1 3600 (codes "10") ∷ flag (codes "export") ∷ flag (codes "change-terms") ∷ flag (codes "verbose") ∷ text_option (codes "log") ∷ text_option (codes "pools") ∷ [])
 
 -- `held` has no options
 abbrev pub held_app : App

@@ -329,6 +329,8 @@ pub struct Hosting<'a> {
     pub verbose: bool,
     /// The file to which it appends who took numbers, gave them back or was refused, where one is named.
     pub log: Option<&'a str>,
+    /// The file that lists its pools, where one is named.
+    pub pools: Option<&'a str>,
     ghost in_range: { IsHostingRange config.world clients idle },
 }
 
@@ -345,11 +347,12 @@ impl<'a> Hosting<'a> {
         keeping: Keeping<'a>,
         verbose: bool,
         log: Option<&'a str>,
+        pools: Option<&'a str>,
     ) -> Option<Hosting<'a>>
         ensures sizes { IfSome result (λ h. (h.config ≡ config) × (h.clients ≡ clients) × (h.idle ≡ idle)) }
         ensures others { IfSome result (λ h. (h.endpoints ≡ endpoints.entry) × (h.keeping ≡ keeping.entry) × (h.verbose ≡ verbose)
             × (h.holding ≡ holding) × (h.stores_reads ≡ stores_reads)) }
-        ensures log { IfSome result (λ h. h.log ≡ log.entry) }
+        ensures files { IfSome result (λ h. (h.log ≡ log.entry) × (h.pools ≡ pools.entry)) }
         ensures admissions { IfSome result (λ h. h.admissions ≡ admissions) }
         ensures range { IsSome result ↔ IsHostingRange config.world clients idle }
     {
@@ -370,6 +373,7 @@ impl<'a> Hosting<'a> {
             keeping,
             verbose,
             log,
+            pools,
         })
     }
 }

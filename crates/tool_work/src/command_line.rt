@@ -255,6 +255,7 @@ const HOST: Manual = Manual {
   slotctl host --port 7070 --journal slots.record --new
   slotctl host --unix /run/slotctl/socket --mode 660 --metrics 9470 --journal slots.record
   slotctl host --port 7070 --hold connection --grace 30
+  slotctl host --port 7070 --pools pools.conf --journal journals --new
   slotctl host --port 7070 --etcd 10.0.0.1:2379,10.0.0.2:2379 --prefix slots/
   slotctl host --etcd 10.0.0.1:2379 --prefix slots/ --export | slotctl play",
     choices: &[
@@ -372,6 +373,12 @@ const HOST: Manual = Manual {
             takes: Takes::Text("FILE"),
             help: "appends to a file a line of JSON for each number taken or given back and each refusal 8, 9 or 10, \
                 with the time and the peer; moved away it is made anew",
+        },
+        Choice {
+            name: "pools",
+            takes: Takes::Text("FILE"),
+            help: "hosts the pools that a file lists: in each line NAME NUMBERS, and then nothing, forever, or the seconds of its grace time; clients \
+                say pool NAME first, --k counts for none, and --journal and --log name folders, with a file for each pool",
         },
     ],
 };

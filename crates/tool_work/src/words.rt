@@ -358,6 +358,7 @@ fn host_given<'a>(matches: &ArgMatches<'a>) -> Option<Hosting<'a>>
     let keeping = keeping_given(matches)?;
     let verbose = flag_given(matches, "verbose");
     let log = text_given(matches, "log");
+    let pools = text_given(matches, "pools");
     Hosting::new(
         config,
         admissions,
@@ -369,6 +370,7 @@ fn host_given<'a>(matches: &ArgMatches<'a>) -> Option<Hosting<'a>>
         keeping,
         verbose,
         log,
+        pools,
     )
 }
 

@@ -176,6 +176,15 @@ pub fn metadata<R: Files>(_rt: &R, path: &str) -> io::Result<Metadata> {
     std::fs::metadata(path).map(Metadata)
 }
 
+/// `read_to_string`: the text of a file.
+///
+/// # Errors
+///
+/// What the system says, and `InvalidData` where it is no text.
+pub fn read_to_string<R: Files>(_rt: &R, path: &str) -> io::Result<String> {
+    std::fs::read_to_string(path).map(String::of)
+}
+
 /// `symlink_metadata`: what it says of the name there.
 pub fn symlink_metadata<R: Files>(_rt: &R, path: &str) -> io::Result<Metadata> {
     std::fs::symlink_metadata(path).map(Metadata)

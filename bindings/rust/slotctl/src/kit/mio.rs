@@ -32,6 +32,18 @@ impl Poll {
             polled => polled,
         }
     }
+
+    /// `as_raw_fd`: the number by which another waits for it, on systems that have one.
+    #[cfg(unix)]
+    pub fn as_raw_fd(&self) -> i32 {
+        std::os::fd::AsRawFd::as_raw_fd(&self.0)
+    }
+
+    /// The same elsewhere, where none can be waited for.
+    #[cfg(not(unix))]
+    pub fn as_raw_fd(&self) -> i32 {
+        0
+    }
 }
 
 /// What the system told.

@@ -23,6 +23,7 @@ pub mod logbook;
 pub mod marker;
 pub mod mio;
 pub mod net;
+pub mod os;
 pub mod rand_core;
 pub mod rt;
 pub mod serde_json;

@@ -27,5 +27,5 @@ returns-in_err-stores_reads c = unless_some c.from_residual-in_err-stores_reads.
 
 pub returns : goal.returns
 returns c =
-    hosted (rows_of (found_of c.args.matches.now)) c.in_ok-config.config c.in_ok-admissions.admissions c.in_ok-endpoints.endpoints c.in_ok-clients.clients c.idle_given-idle.result c.in_ok-holding.holding c.in_ok-stores_reads.stores_reads c.in_ok-keeping.keeping c.flag_given-verbose.result c.text_given-log.result c.new.result
-    c.in_ok-config.ensures c.in_ok-admissions.ensures c.in_ok-endpoints.ensures c.in_ok-clients.ensures c.idle_given-idle.ensures c.in_ok-holding.ensures c.in_ok-stores_reads.ensures c.in_ok-keeping.ensures c.flag_given-verbose.ensures c.text_given-log.ensures c.new.ensures.sizes c.new.ensures.others c.new.ensures.log c.new.ensures.admissions c.new.ensures.range (omega arith)
+    hosted (rows_of (found_of c.args.matches.now)) c.in_ok-config.config c.in_ok-admissions.admissions c.in_ok-endpoints.endpoints c.in_ok-clients.clients c.idle_given-idle.result c.in_ok-holding.holding c.in_ok-stores_reads.stores_reads c.in_ok-keeping.keeping c.flag_given-verbose.result c.text_given-log.result c.text_given-pools.result c.new.result
+    c.in_ok-config.ensures c.in_ok-admissions.ensures c.in_ok-endpoints.ensures c.in_ok-clients.ensures c.idle_given-idle.ensures c.in_ok-holding.ensures c.in_ok-stores_reads.ensures c.in_ok-keeping.ensures c.flag_given-verbose.ensures c.text_given-log.ensures c.text_given-pools.ensures c.new.ensures.sizes c.new.ensures.others c.new.ensures.files c.new.ensures.admissions c.new.ensures.range (omega arith)
