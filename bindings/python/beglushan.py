@@ -32,7 +32,7 @@ import time
 import traceback
 from typing import Any, AsyncIterator, Callable, Iterable, List, NamedTuple, Optional, Sequence, Tuple, TypeVar, Union
 
-__all__ = ["AsyncHall", "BeglushanError", "Hall", "LostNumber", "NoNames", "Number", "NumbersExhausted", "Refused", "Terms", "Unreachable"]
+__all__ = ["AsyncHall", "BeglushanError", "Hall", "LostNumber", "NoNames", "NoPool", "Number", "NumbersExhausted", "Refused", "Terms", "Unreachable"]
 
 Result = TypeVar("Result")
 
@@ -123,6 +123,10 @@ class NoNames(BeglushanError):
     """`rename` was called where the front end gives no names: its world has none, or it was started without `--world`."""
 
 
+class NoPool(BeglushanError):
+    """A front end has no pool of the name that was given, or hosts one pool alone."""
+
+
 class _Fault(Exception):
     """An attempt has failed, and may be made again."""
 
@@ -157,8 +161,11 @@ _ASSUMED = Terms(False, 10, 30)
 class _Connection:
     """One connection at a time to one of the front ends, for one identity. Replies are matched to lines in their order."""
 
-    def __init__(self, addresses: Sequence[Tuple[str, int]], timeout: float, identity: int, stopped: Optional[threading.Event] = None) -> None:
+    def __init__(
+        self, addresses: Sequence[Tuple[str, int]], timeout: float, identity: int, pool: Optional[str], stopped: Optional[threading.Event] = None
+    ) -> None:
         self.identity = identity
+        self._pool = pool  # which of several pools it is of
         self._stopped = stopped  # ends a wait for a number
         self.serial = 0  # of the last connection: what was said on an earlier one counts no more
         self.terms = _ASSUMED  # those of the last connection
@@ -265,8 +272,18 @@ class _Connection:
             self._stream = socket.create_connection((host, port), limit)
             self._stream.setsockopt(socket.IPPROTO_TCP, socket.TCP_NODELAY, 1)
             self._stream.setsockopt(socket.SOL_SOCKET, socket.SO_KEEPALIVE, 1)
+            if self._pool is not None:
+                self._choose(self._stream, self._pool, limit)
             self.serial += 1
         return self._listened(self._stream)
+
+    @staticmethod
+    def _choose(stream: socket.socket, pool: str, limit: float) -> None:
+        """Chooses one of several pools, by the first line."""
+        stream.settimeout(limit)
+        stream.sendall(f"pool {pool}\n".encode("ascii"))
+        if _read_replies(stream, 1, time.monotonic() + limit, None) != ["ok"]:
+            raise NoPool(f"there is no pool {pool}")
 
     @staticmethod
     def _listened(stream: socket.socket) -> socket.socket:
@@ -693,6 +710,7 @@ class Hall:
         addresses: Union[str, Iterable[str]],
         *,
         identity: Optional[int] = None,
+        pool: Optional[str] = None,
         timeout: float = 5.0,
         heartbeat: float = 60.0,
         patience: float = 20.0,
@@ -702,21 +720,23 @@ class Hall:
 
         `addresses` are `host:port` texts, or one text with commas between them, tried in turn; an IPv6 address stands in brackets.
         `identity` holds the number and has the name, from 1 to 2^64 - 1. With it the hall holds one number at a time. Without it an identity
-        is drawn for each number, and one for the name.
+        is drawn for each number, and one for the name. `pool` names one of the pools of a server that has several (`--pools`).
         All else is in seconds. `timeout` is the longest that a front end may take to connect or to answer. A held number's connection says
         something each `heartbeat`, or each third of the least of the server's `--grace` and `--idle`, if that is shorter. A call tries the front
         ends for `patience`.
         `on_lost` is called with a number, in the number's thread, once its `valid_until` has passed, or once it is known to be lost. In the first
         case the thread goes on, and the number may come to be valid again: `check` tells.
 
-        Raises ValueError for a text that is no address, an identity out of range, and seconds that are not positive."""
+        Raises ValueError for a text that is no address, an identity out of range, a name that no pool can have, and seconds that are not positive."""
         if identity is not None and not 0 < identity < 2**64:
             raise ValueError("an identity is from 1 to 2^64 - 1")
+        if pool is not None and not re.fullmatch(r"(?!\.)[A-Za-z0-9_.-]{1,64}", pool):
+            raise ValueError("a pool's name has 1 to 64 letters, digits, '-', '_' and '.', and does not begin with '.'")
         if min(timeout, heartbeat, patience) <= 0:
             raise ValueError("seconds are positive")
         self.identity = _drawn_identity() if identity is None else identity
         self._is_drawn = identity is None
-        self._addresses = _as_addresses(addresses)
+        self._addresses, self._pool = _as_addresses(addresses), pool
         self._timeout, self._heartbeat, self._patience, self._on_lost = timeout, heartbeat, patience, on_lost
         self._busy = threading.Lock()
 
@@ -726,7 +746,7 @@ class Hall:
         While all numbers are held it waits for so many seconds, which are rounded up to whole ones. The server gives a number that is free to
         who has waited longest. Each number has a connection of its own, and a thread for the heartbeat.
 
-        Raises NumbersExhausted; Refused (13 where the history is full, 9 where this hall's given identity holds its number); Unreachable;
+        Raises NumbersExhausted; NoPool; Refused (13 where the history is full, 9 where this hall's given identity holds its number); Unreachable;
         BeglushanError where the slot has the greatest value."""
         return self._acquire_within(wait, threading.Event())
 
@@ -759,14 +779,14 @@ class Hall:
         """The name of this hall's identity, from 1 to 2m - 1, where m is the most participants. It is for good: each call returns the same.
 
         Raises Refused (3 where as many have begun as the world takes, 6 where the proposals are used up, 13), NoNames and Unreachable."""
-        connection = _Connection(self._addresses, self._timeout, self.identity)
+        connection = _Connection(self._addresses, self._timeout, self.identity, self._pool)
         try:
             return connection.persist(lambda: self._named(connection), self._patience)
         finally:
             connection.close()
 
     def _acquired(self, identity: int, wait: float, stopped: threading.Event, at_end: Callable[[], None]) -> Number:
-        connection = _Connection(self._addresses, self._timeout, identity, stopped)
+        connection = _Connection(self._addresses, self._timeout, identity, self._pool, stopped)
         return Number(connection, self._is_drawn, wait, self._patience, self._heartbeat, self._on_lost, at_end)
 
     def _named(self, connection: _Connection) -> int:
@@ -970,6 +990,7 @@ def _asked(words: Optional[Sequence[str]]) -> argparse.Namespace:
     take = commands.add_parser("take", description=_USAGE, epilog=_STATUSES, formatter_class=argparse.RawDescriptionHelpFormatter)
     take.add_argument("--at", required=True, metavar="HOST:PORT[,..]", help="the front ends, tried in turn")
     take.add_argument("--id", type=int, metavar="ID", help="who holds the number, from 1 to 2^64 - 1; drawn if not given")
+    take.add_argument("--pool", metavar="NAME", help="which pool, of a server that has several")
     take.add_argument("--wait", type=float, default=0.0, metavar="SECONDS", help="how long to wait while all numbers are held (0)")
     take.add_argument("--confirm", type=float, default=60.0, metavar="SECONDS", help="how often to ask whether somebody else gave the number back (60; 0: never)")
     take.add_argument("command", nargs="+", metavar="COMMAND", help="the command and its words, behind --")
@@ -977,10 +998,10 @@ def _asked(words: Optional[Sequence[str]]) -> argparse.Namespace:
 
 
 def main(words: Optional[Sequence[str]] = None) -> int:
-    """Runs a command while it holds a number: `take --at ADDRESS [--id ID] [--wait SECONDS] -- COMMAND ..`. Returns its status."""
+    """Runs a command while it holds a number: `take --at ADDRESS [--id ID] [--pool NAME] [--wait SECONDS] -- COMMAND ..`. Returns its status."""
     asked = _asked(words)
     try:
-        hall = Hall(asked.at, identity=asked.id)
+        hall = Hall(asked.at, identity=asked.id, pool=asked.pool)
     except ValueError as fault:
         print(f"beglushan: {fault}", file=sys.stderr)
         return 2
