@@ -1,7 +1,9 @@
-// Erased by bindings/rust/erase from crates/service_log/src/lib.rt, sha256 08f7c4187cdca92b0ad01b016607641aac07620b454d5546cd7951dd13c215f0.
+// Erased by bindings/rust/erase from crates/service_log/src/lib.rt, sha256 9ee1a912346a4bc20a891083e5cebdd1c4aad95a8eb854ec4e082d085109df58.
 //! One log that several machines share, and a replica of a machine that follows it (Schneider 1990).
 //!
 //! A `Store` has places, each of which is written at most once, by the first caller. Its entries in order are the log.
+//! Entries may be given up (`Store::trim`), and their places stay taken for good.
+//!
 //! A `Replica` applies the entries of the log to its `Machine`, each once, in their order.
 //!
 //! `Replica::serve` puts a batch into the log, after all entries that are there, and returns the replies that are due

@@ -1,4 +1,4 @@
-// Erased by bindings/rust/erase from crates/service_loop/src/lib.rt, sha256 db705e3e1df8c9f2202008aaf61779d081a61b7e5d328133adbc416e737aa3a1.
+// Erased by bindings/rust/erase from crates/service_loop/src/lib.rt, sha256 a03b79ae91689b873c0db092d17681b58aebc2973a270e51b41150ddada7afc4.
 //! Connections that share one service, in one thread.
 //!
 //! `Buffers` are a connection without its stream: one side of a transcript (`Responder`), what came and is not taken yet, and what was said and is not
@@ -28,6 +28,9 @@
 //! `host` is a whole server over sockets: it waits until some are ready (`mio`), gives those their turn, and closes who is at an end or idle. Its theorem
 //! (`WasAttended`): from its start to its end nothing else was done than such turns, each said of the numbers of its connections; what was heard
 //! of connections that ended, at a tick; and what was done to end the stays that are due then (`law_of_hosted_grace`).
+//!
+//! `host_pools` is a server of several pools (`HostedPool`): a client chooses one by its first line (`Porch`). Its theorem (`PoolsWereAttended`): nothing else
+//! was done to each pool than `host` does.
 //!
 //! What was taken, given back and refused is counted, and told of in lines where a log of them is wanted (`Audit`, `AuditLog`).
 //!
@@ -64,8 +67,12 @@ pub mod gathering;
 pub mod host_fault;
 pub mod hosting;
 mod losing;
+mod newcomer;
 pub mod peek;
 pub mod persist;
+pub mod pool_line;
+pub mod pools;
+mod porch;
 pub mod releasing;
 mod searching;
 pub mod seat_numbers;

@@ -1,11 +1,11 @@
-// Erased by bindings/rust/erase from crates/service_watch/src/lib.rt, sha256 9deadedc01d090516ec8b81c0fcf2c186529102b031b547a50d7bb4f15c6a893.
+// Erased by bindings/rust/erase from crates/service_watch/src/lib.rt, sha256 68b633be8b3f1b4879d880d3242176a0b02e1ff48d3d99afd095c5c35d3b956f.
 //! What a server shows those who watch it: a page of metrics in the text form of Prometheus, version 0.0.4, over HTTP/1.1.
 //!
 //! `put_page` writes the page of `Numbers`, `asked_by` says what a request asks for, and `put_answer` writes what is answered. `Scrapers` are those
 //! who ask, at most eight at once: none of their calls waits, each asks once, and each is closed after its answer or ten seconds.
 //!
 //! Promised is the text of the page (`put_page`), which has each number under its name, and the text of each answer (`put_answer`). What a request
-//! asks for, and what sockets carry, is only tested.
+//! asks for, the page of several pools (`put_pages`), and what sockets carry, is only tested.
 //!
 //! From `service_loop/src/watching.rt`:
 //!
@@ -15,7 +15,7 @@
 //!     accepted: loops.accepted,
 //!     ..
 //!     tally: *tally,
-//!     log_age: age_of(tally.log_place, loops.ticks, self.placed),
+//!     log_age: age_of(tally.log_place, loops.ticks, placed),
 //! }
 //! ```
 
@@ -24,6 +24,7 @@ pub mod durations;
 pub mod listeners;
 pub mod numbers;
 pub mod page;
+pub mod pool_pages;
 pub mod request;
 pub mod scraper;
 pub mod scrapers;

@@ -1,4 +1,4 @@
-// Erased by bindings/rust/erase from crates/slotctl/src/main.rt, sha256 86ac78c266a6ec77839d40748cda5fd506eb31132f46b6e3a23295c81e942a27.
+// Erased by bindings/rust/erase from crates/slotctl/src/main.rt, sha256 fe2ec59c99ca6c9fe89d760a8ba67b5acf9251574b3d7af12b0c26346a681b9f.
 //! The program `slotctl`: plays schedules of shared-memory algorithms, one access a step.
 //!
 //! `slotctl play --world splitter --m 2` reads commands from the standard input, one a line, and writes a reply to each to
@@ -190,6 +190,7 @@ fn host_plan_of<'a>(hosting: Hosting<'a>, seen: bool) -> HostPlan<'a> {
         keeping: keeping_of(hosting.keeping),
         reports: hosting.verbose || seen,
         log: hosting.log,
+        pools: hosting.pools,
     }
 }
 

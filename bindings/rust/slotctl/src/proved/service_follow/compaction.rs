@@ -1,4 +1,4 @@
-// Erased by bindings/rust/erase from crates/service_follow/src/compaction.rt, sha256 b14357a76af9cc6fe47c475334e2fdb6875c0702d6a46845439808861aff083f.
+// Erased by bindings/rust/erase from crates/service_follow/src/compaction.rt, sha256 5a5b094439d13ce11fdbceff16628958e9941edccb8de30021c834235663dc8b.
 //! Compactions that a front end offers.
 
 use crate::kit::alloc::{AllocError, Global};
@@ -46,6 +46,9 @@ const MOST_WAITS: u32 = 40;
 /// How often it asks the store for a compaction, at most.
 const MOST_TURNS: u32 = 4_000;
 
+/// For how many seconds at least entries are kept once a later compaction stands. So who reads the log within them misses none.
+const KEPT_SECONDS: u64 = 10;
+
 /// How many entries are read at once.
 const READ_ENTRIES: u64 = 10_000;
 
@@ -90,6 +93,10 @@ pub(crate) struct Compaction {
     count: u64,
     entry: Vec<u8>,
     lines: Vec<u8>,
+    /// The place below which entries are to be given up, if any are.
+    below: Option<u64>,
+    /// In which second it was decided that they are.
+    since: u64,
 }
 
 // The line that asks for an event.
@@ -196,6 +203,15 @@ fn put_last(
     Ok(())
 }
 
+// Returns the place below which entries are to be given up once a compaction stands whole that begins at `first`: the one
+// that was noted before it. So who is somewhat late, or starts at that place, finds what it needs.
+fn below_of(noted: Option<u64>, first: u64) -> Option<u64> {
+    match noted {
+        Some(place) if place < first => Some(place),
+        _ => None,
+    }
+}
+
 // Whether what was offered stands.
 fn is_answered(offered: Result<Step, Cause>) -> Result<bool, LogFault> {
     let stands = matches!(offered, Ok(Step::Answered));
@@ -229,6 +245,8 @@ impl Compaction {
             count: 0,
             entry: Vec::new(alloc),
             lines: Vec::new(alloc),
+            below: None,
+            since: 0,
         }
     }
 
@@ -420,7 +438,31 @@ impl Compaction {
         Ok(())
     }
 
-    // Does what is next, and asks the store once at most.
+    // Notes the place where a compaction begins that stands whole. What is before the one noted until then is to be given up,
+    // once all is that was to be before.
+    fn note<S: Store>(&mut self, first: u64, log: &mut LogHall<S>, now: u64) {
+        let noted = log.hint();
+        log.put_hint(first);
+        if self.below.is_none() {
+            self.below = below_of(noted, first);
+            self.since = now;
+        }
+    }
+
+    // Gives up some of the entries that are to be given up, if any are and were kept for long enough.
+    fn trim<S: Store>(&mut self, log: &mut LogHall<S>, now: u64) {
+        let Some(place) = self.below else {
+            return;
+        };
+        if now.saturating_sub(self.since) < KEPT_SECONDS {
+            return;
+        }
+        if !log.trim(place) {
+            self.below = None;
+        }
+    }
+
+    // Does what is next, and asks the store twice at most.
     fn turn<S: Store, T: Pause>(
         &mut self,
         work: &mut Work,
@@ -435,22 +477,34 @@ impl Compaction {
             CompactionStage::End => self.end(work, log, reply_queue),
             CompactionStage::Note => {
                 work.stage = CompactionStage::Rest;
-                log.put_hint(work.first);
+                self.note(work.first, log, pause.seconds());
                 Ok(())
             }
             CompactionStage::Rest => Ok(()),
         }
     }
 
-    /// Offers a compaction if one is due, and waits a little for one that another front end has under way.
-    ///
-    /// It does nothing while the history is short and few entries were applied since the last one. Else it reads the log to its end. A compaction is offered again from its
-    /// beginning if another entry came between, and then put off.
+    /// Gives up some of the entries before a compaction behind which this front end wrote another, 10 seconds later at first. Then
+    /// it offers a compaction if one is due, and waits a little for one that another front end has under way.
     ///
     /// # Errors
     ///
     /// Those behind which nothing more is served (`LogFault::of_cause`), and `Memory` if an allocation failed.
     pub(crate) fn compact<S: Store, T: Pause>(
+        &mut self,
+        log: &mut LogHall<S>,
+        pause: &mut T,
+        reply_queue: &mut ReplyQueue,
+    ) -> Result<(), LogFault> {
+        self.trim(log, pause.seconds());
+        self.compact_when_due(log, pause, reply_queue)
+    }
+
+    // Offers a compaction if one is due, and waits a little for one that another front end has under way.
+    //
+    // It does nothing while the history is short and few entries were applied since the last one. Else it reads the log to its end. A compaction is offered again from its
+    // beginning if another entry came between, and then put off.
+    fn compact_when_due<S: Store, T: Pause>(
         &mut self,
         log: &mut LogHall<S>,
         pause: &mut T,

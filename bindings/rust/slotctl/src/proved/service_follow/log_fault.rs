@@ -1,4 +1,4 @@
-// Erased by bindings/rust/erase from crates/service_follow/src/log_fault.rt, sha256 0b894c663ecaf1e002a03a58933ad51e6b73310d441ceb58e0cb3bec921eda41.
+// Erased by bindings/rust/erase from crates/service_follow/src/log_fault.rt, sha256 b95fed7e683a560cb94cc895728c3facfce18ea91a10595e574789879c2c73ce.
 //! Why a hall over a log is not served, or no more.
 
 use crate::proved::model_steps::refusal::Refusal;
@@ -31,6 +31,8 @@ pub enum LogFault {
     Astray,
     /// The log was put back to an older state than was applied.
     WentBack,
+    /// Entries of the log were given up before they were read here. A start reads from the last compaction on.
+    Trimmed,
     /// The store does not answer, as the hall is opened.
     Store(StoreFault),
 }
@@ -75,6 +77,7 @@ impl LogFault {
     pub fn of_store(fault: StoreFault) -> Option<LogFault> {
         match fault {
             StoreFault::WentBack => Some(LogFault::WentBack),
+            StoreFault::Trimmed => Some(LogFault::Trimmed),
             StoreFault::Memory => None,
             StoreFault::Lost => None,
             StoreFault::Wrong => None,
@@ -109,6 +112,7 @@ impl fmt::Display for LogFault {
             LogFault::Full => "the log is full",
             LogFault::Astray => "other lines were taken than learnt",
             LogFault::WentBack => "the log went back",
+            LogFault::Trimmed => "the log was trimmed before it was read here",
             LogFault::Store(fault) => return write!(f, "{fault}"),
         })
     }

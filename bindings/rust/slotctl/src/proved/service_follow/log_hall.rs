@@ -1,4 +1,4 @@
-// Erased by bindings/rust/erase from crates/service_follow/src/log_hall.rt, sha256 35eae46ce055a91aebf7358bc1c69a35d5ffb3188d20cf8de47881f3dc3e867c.
+// Erased by bindings/rust/erase from crates/service_follow/src/log_hall.rt, sha256 08f7769417f9d10d56da8d9450042f6f7f543347d6df07480d92562815a27b83.
 //! A hall that follows a log.
 
 use crate::kit::alloc::Global;
@@ -143,6 +143,20 @@ impl<S: Store> LogHall<S> {
     pub(crate) fn put_hint(&mut self, place: u64) {
         law_of_following::<StayMachine, S>();
         let _ = self.store.put_hint(place);
+    }
+
+    /// Returns the place below which entries were given up, as the store tells, or 0 if none were or it did not answer. It is a
+    /// hint alone.
+    pub(crate) fn trimmed(&mut self) -> u64 {
+        law_of_following::<StayMachine, S>();
+        self.store.trimmed().unwrap_or(0)
+    }
+
+    /// Gives up some of the entries below a place, but never the first (`Store::trim`). Returns true if more are to be given
+    /// up. If the store does not answer, the rest is left.
+    pub(crate) fn trim(&mut self, place: u64) -> bool {
+        law_of_following::<StayMachine, S>();
+        self.store.trim(place) == Ok(false)
     }
 
     /// Has the log begin with this line, where nothing stands in it, and reads the line with which it begins; tells whether there is one.

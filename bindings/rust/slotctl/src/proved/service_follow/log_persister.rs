@@ -1,4 +1,4 @@
-// Erased by bindings/rust/erase from crates/service_follow/src/log_persister.rt, sha256 b6001ae12dffb6190ca18e888fd819b47732a39dcd8fe9704b89fab4861f0b01.
+// Erased by bindings/rust/erase from crates/service_follow/src/log_persister.rt, sha256 d5cde4f5c32b5a141b2b70ccb4d25d3c68c2ce35b6dbe6d7d21fa7dd02f08211.
 //! Serves the clients of one front end over a log.
 
 use crate::kit::alloc::{AllocError, Allocator, Global};
@@ -285,19 +285,23 @@ impl<S: Store, T: Pause> LogPersister<S, T> {
         self.apply_known()
     }
 
-    // Applies all that stands in the log from the place on that is noted in the store, if one is.
+    // Applies all that stands in the log from the place on that is noted in the store, if one is, or a later one below which
+    // entries were given up.
     fn apply_hinted(&mut self) -> Result<(), LogFault> {
-        let place = self.log.hint().unwrap_or(0);
+        let noted = self.log.hint().unwrap_or(0);
+        let place = noted.max(self.log.trimmed());
         self.log.start_at(self.alloc, place)?;
         self.apply_all()
     }
 
-    // Applies all that stands in the log from the first entry on, if nothing is known of the hall.
+    // Applies all that stands in the log, if nothing is known of the hall: from the first entry on, or from the first that
+    // was not given up.
     fn apply_known(&mut self) -> Result<(), LogFault> {
         if !self.log.is_blind() {
             return Ok(());
         }
-        self.log.start_at(self.alloc, 0)?;
+        let place = self.log.trimmed();
+        self.log.start_at(self.alloc, place)?;
         self.apply_all()?;
         if self.log.is_blind() {
             return Err(LogFault::Astray);

@@ -1,4 +1,4 @@
-// Erased by bindings/rust/erase from crates/service_host/src/failure.rt, sha256 2eb0363d261dd5172973bbfa96c4515176da05a470dcf5942c4c8aa66ec3ea2c.
+// Erased by bindings/rust/erase from crates/service_host/src/failure.rt, sha256 5e996fffff45cb0e904ea47e55c270fc1e01ec25a511efb8d695973be87b8c73.
 //! Why a hall is not hosted, or no more.
 
 use crate::kit::alloc::AllocError;
@@ -96,9 +96,24 @@ pub enum HostFailure {
     /// The log was put back to an older state under the server, which answers nothing more.
     #[error("the log went back")]
     WentBack,
+    /// Entries of the log were given up before this server had read them. It answers nothing more.
+    #[error("entries of the log were deleted before this server had read them; start it again: it begins at the last compaction")]
+    Trimmed,
     /// The file of the audit log could not be opened.
     #[error("the file of --log could not be opened: {0}")]
     AuditLog(ErrorKind),
+    /// The file that lists the pools could not be read.
+    #[error("the file of --pools could not be read: {0}")]
+    Pools(ErrorKind),
+    /// The line of this number of the file that lists the pools lists none, or one that is listed before.
+    #[error("the file of --pools: line {0} is not NAME NUMBERS, and then nothing, forever, or the seconds of its grace time; or it names a pool again")]
+    PoolLine(u64),
+    /// The file that lists the pools lists none.
+    #[error("the file of --pools lists no pool")]
+    NoPools,
+    /// Several pools were asked for, over a log.
+    #[error("--pools is for journals: over etcd each pool has a server of its own, since each waits for etcd")]
+    PoolsOverLog,
     /// The members of the log did not answer, or the log failed.
     #[error("log fault: {0}")]
     Log(LogFault),
@@ -204,6 +219,7 @@ impl From<LogFault> for HostFailure {
             LogFault::OtherConfig => HostFailure::OtherLog,
             LogFault::OtherTerms(hall, own) => HostFailure::OtherTerms(hall, own),
             LogFault::WentBack => HostFailure::WentBack,
+            LogFault::Trimmed => HostFailure::Trimmed,
             other => HostFailure::Log(other),
         }
     }

@@ -1,4 +1,4 @@
-// Erased by bindings/rust/erase from crates/service_host/src/log_plan.rt, sha256 590fa1e9ba48081be4c8d5cdf14ca283169a236c937f853b6223eead91acec5a.
+// Erased by bindings/rust/erase from crates/service_host/src/log_plan.rt, sha256 243a98220c543312c8088cc1be3853fa1aa725f971262039cd7d7b7ed8d9728a.
 //! A log in etcd that keeps the history of a hall.
 
 use crate::kit::alloc::Global;
@@ -23,7 +23,7 @@ const REST: u64 = 50;
 pub struct LogPlan<'a> {
     /// The addresses of the members of etcd, with a comma between them, as `10.0.0.1:2379,10.0.0.2:2379`. No names are looked up.
     pub members: &'a str,
-    /// What each key begins with. It is this hall's alone, and nothing under it is ever deleted.
+    /// What each key begins with. It is this hall's alone, and nobody else deletes anything under it.
     pub prefix: &'a str,
     /// For how many seconds clients wait while no member answers.
     pub patience: u64,

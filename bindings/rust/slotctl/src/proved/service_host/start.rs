@@ -1,4 +1,4 @@
-// Erased by bindings/rust/erase from crates/service_host/src/start.rt, sha256 33b04352c692bd6981a7d2a90c57be09549bfc4f23ed2f2b548699e30f3c02b2.
+// Erased by bindings/rust/erase from crates/service_host/src/start.rt, sha256 eb84565c205dfef70b82d592be2e0afe279ccfe5a906eba6226689c4cdf22d4b.
 //! A whole server of a hall, by its plan.
 
 use crate::kit::alloc::{AllocGlobal, Global};
@@ -13,7 +13,6 @@ use crate::proved::model_asked::config::Config;
 use crate::proved::model_asked::kind::WorldKind;
 use crate::proved::model_pool::stays::stays::Stays;
 use crate::proved::service_follow::hall_terms::HallTerms;
-use crate::proved::service_follow::log_persister::LogPersister;
 use crate::proved::service_follow::pause::Pause;
 use crate::proved::service_follow::reply_queue::ReplyQueue;
 use crate::proved::service_hall::compactor::Compactor;
@@ -24,13 +23,12 @@ use crate::proved::service_host::export::write_events;
 use crate::proved::service_host::failure::HostFailure;
 use crate::proved::service_host::holders::config_of;
 use crate::proved::service_host::keepers::stays_at_start;
-use crate::proved::service_host::log_plan::{
-    fresh_token, members_of, LogPlan, Patience, MEMBER_SECONDS,
-};
+use crate::proved::service_host::log_plan::{members_of, LogPlan, Patience, MEMBER_SECONDS};
 use crate::proved::service_host::persisters::{Recorded, Unrecorded};
+use crate::proved::service_host::pools::host_pool_file;
 use crate::proved::service_host::reading::Reading;
-use crate::proved::service_host::sizes::{are_alike_but_size, config_in};
-use crate::proved::service_host::terms::{followed_any, terms_by, warn_of_none};
+use crate::proved::service_host::sizes::are_alike_but_size;
+use crate::proved::service_host::terms::{followed, terms_by, warn_of_none, Opening};
 use crate::proved::service_host::widening::{
     check_size, widen_followed, widen_recorded, SizeAsked,
 };
@@ -46,9 +44,12 @@ use crate::proved::service_log::store::Store;
 use crate::proved::service_loop::attended::Attended;
 use crate::proved::service_loop::audit::Audit;
 use crate::proved::service_loop::audit_log::AuditLog;
-use crate::proved::service_loop::hosting::{host, HostOptions, Hosted};
+use crate::proved::service_loop::host_fault::HostFault;
+use crate::proved::service_loop::hosting::{host, HostOptions};
+use crate::proved::service_loop::persist::Persist;
+use crate::proved::service_watch::listeners::fault::ListenFault;
 use crate::proved::service_watch::listeners::listening::{listen, ListenPlan, Listening};
-use crate::proved::service_watch::listeners::socket_file::SocketFile;
+use crate::proved::text_player::service::Service;
 
 /// Where the history of a hall is kept.
 #[derive(Clone, Copy, Debug)]
@@ -82,13 +83,15 @@ pub struct HostPlan<'a> {
     pub keeping: Keeping<'a>,
     /// Whether a line at first and then one a minute tells how much there is.
     pub reports: bool,
-    /// The file to which a log of an audit is appended, where one is wanted.
+    /// The file to which a log of an audit is appended, where one is wanted; where there are several pools, the folder of such files, one for each.
     pub log: Option<&'a str>,
+    /// The file that lists the pools, where there are several (`pools_of`). Then `keeping` names the folder of their journals.
+    pub pools: Option<&'a str>,
 }
 
 impl HostPlan<'_> {
-    // What the loop serves, over a hall of this world.
-    fn options(&self, kind: WorldKind) -> HostOptions {
+    /// What the loop serves, over a hall of this world.
+    pub(crate) fn options(&self, kind: WorldKind) -> HostOptions {
         HostOptions {
             kind,
             clients: self.clients,
@@ -107,26 +110,55 @@ impl HostPlan<'_> {
         }
     }
 
-    // What is told of numbers and refusals.
-    fn audit(&self, alloc: Global) -> Audit {
+    /// What is told of numbers and refusals.
+    pub(crate) fn audit(&self, alloc: Global) -> Audit {
         Audit::new(alloc, self.log.is_some())
     }
 }
 
-// Tells how serving ended. Where it ended well the file of the socket is removed.
-fn ended<R: Files>(
+// Listens, and serves clients of a service over a world of this kind. Where that ended well the file of the socket is removed.
+fn serve<R, D, K, L: AuditLog, W: Write, E: Write>(
     rt: &R,
-    file: Option<SocketFile>,
-    hosted: Result<Hosted, HostFailure>,
-) -> Result<(), HostFailure> {
+    alloc: Global,
+    plan: &HostPlan<'_>,
+    kind: WorldKind,
+    service: D,
+    stays: Stays,
+    persister: K,
+    audit: &mut L,
+    output: &mut W,
+    errors: &mut E,
+) -> Result<Result<(), HostFault<K::Fault>>, ListenFault>
+where
+    R: Net + Wait + Clock + Files,
+    D: Service<R>,
+    K: Persist<D>,
+{
+    let Listening { listeners, file } = match listen(rt, alloc, plan.listen) {
+        Ok(listening) => listening,
+        Err(fault) => return Err(fault),
+    };
+    let mut persister = persister;
+    let mut attended = Attended::new(service, stays, plan.grace.is_some(), plan.audit(alloc));
+    let hosted = host(
+        rt,
+        alloc,
+        plan.options(kind),
+        listeners,
+        &mut attended,
+        &mut persister,
+        audit,
+        output,
+        errors,
+    );
     match hosted {
         Ok(_) => {
             if let Some(file) = file {
                 file.remove(rt);
             }
-            Ok(())
+            Ok(Ok(()))
         }
-        Err(failure) => Err(failure),
+        Err(fault) => Ok(Err(fault)),
     }
 }
 
@@ -148,8 +180,8 @@ fn reopened<D: Disk>(
     Ok(Journal::open(alloc, disk, made)?)
 }
 
-// Opens the journal of a path, or makes it where it is to be new. One that another server has is refused.
-fn open_journal<R: Clock + Files<File = File> + AllocGlobal + Copy>(
+/// Opens the journal of a path, or makes it where it is to be new. One that another server has is refused.
+pub(crate) fn open_journal<R: Clock + Files<File = File> + AllocGlobal + Copy>(
     rt: &R,
     alloc: Global,
     config: Config,
@@ -188,8 +220,8 @@ where
     }
 }
 
-// What serves a hall that was read of a journal: it is compacted before where it is long, and widened where the plan asks for more numbers.
-fn recorded<R, D: Disk, E: Write>(
+/// What serves a hall that was read of a journal: it is compacted before where it is long, and widened where the plan asks for more numbers.
+pub(crate) fn recorded<R, D: Disk, E: Write>(
     rt: &R,
     alloc: Global,
     plan: &HostPlan<'_>,
@@ -235,7 +267,7 @@ fn host_recorded<R: Net + Wait + Clock + Files, D: Disk, L: AuditLog, W: Write, 
     output: &mut W,
     errors: &mut E,
 ) -> Result<(), HostFailure> {
-    let (reading, mut persister) = match recorded(rt, alloc, plan, opened, errors) {
+    let (reading, persister) = match recorded(rt, alloc, plan, opened, errors) {
         Ok(recorded) => recorded,
         Err(failure) => return Err(failure),
     };
@@ -244,23 +276,12 @@ fn host_recorded<R: Net + Wait + Clock + Files, D: Disk, L: AuditLog, W: Write, 
         Err(failure) => return Err(failure),
     };
     let kind = reading.service.hall().config().world;
-    let mut attended = Attended::new(reading, stays, plan.grace.is_some(), plan.audit(alloc));
-    let Listening { listeners, file } = match listen(rt, alloc, plan.listen) {
-        Ok(listening) => listening,
-        Err(fault) => return Err(HostFailure::from(fault)),
-    };
-    let hosted = host(
-        rt,
-        alloc,
-        plan.options(kind),
-        listeners,
-        &mut attended,
-        &mut persister,
-        audit,
-        output,
-        errors,
-    );
-    ended(rt, file, hosted.map_err(HostFailure::from))
+    match serve(
+        rt, alloc, plan, kind, reading, stays, persister, audit, output, errors,
+    ) {
+        Ok(hosted) => hosted.map_err(HostFailure::from),
+        Err(fault) => Err(HostFailure::from(fault)),
+    }
 }
 
 // Serves a hall whose history ends with the program.
@@ -277,30 +298,19 @@ fn host_unrecorded<R: Net + Wait + Clock + Files, L: AuditLog, W: Write, E: Writ
         service: hall,
         rules: plan.rules,
     };
-    let mut attended = Attended::new(
-        reading,
-        Stays::new(alloc),
-        plan.grace.is_some(),
-        plan.audit(alloc),
-    );
-    let mut persister = Unrecorded {
+    let persister = Unrecorded {
         alloc,
         compactor: Compactor::new(),
         compactions: 0,
     };
-    let Listening { listeners, file } = listen(rt, alloc, plan.listen)?;
-    let hosted = host(
-        rt,
-        alloc,
-        plan.options(plan.config.world),
-        listeners,
-        &mut attended,
-        &mut persister,
-        audit,
-        output,
-        errors,
-    );
-    ended(rt, file, hosted.map_err(HostFailure::from))
+    let kind = plan.config.world;
+    let stays = Stays::new(alloc);
+    match serve(
+        rt, alloc, plan, kind, reading, stays, persister, audit, output, errors,
+    ) {
+        Ok(hosted) => hosted.map_err(HostFailure::from),
+        Err(fault) => Err(HostFailure::from(fault)),
+    }
 }
 
 /// The store in which the log of a plan stands.
@@ -319,28 +329,6 @@ pub(crate) fn store_of<'r, R: Net>(
     };
     let dial = TcpDial::new(rt, members, Duration::from_secs(MEMBER_SECONDS));
     Ok(EtcdStore::new(alloc, dial, prefix))
-}
-
-// Opens the hall of a log to serve its clients by these terms, whatever it stands in: all that stands there is applied.
-fn followed<R: Files<File = File>, S: Store, P: Pause>(
-    rt: &R,
-    alloc: Global,
-    config: Config,
-    store: S,
-    pause: P,
-    terms: HallTerms,
-) -> Result<LogPersister<S, P>, HostFailure> {
-    let (mut store, mut pause) = (store, pause);
-    let config = match config_in(alloc, &mut store, &mut pause, config) {
-        Ok(config) => config,
-        Err(failure) => return Err(failure),
-    };
-    match fresh_token(rt) {
-        Ok(token) => Ok(LogPersister::open(
-            alloc, store, pause, config, token, terms,
-        )?),
-        Err(failure) => Err(failure),
-    }
 }
 
 // Serves a hall whose history is in a log.
@@ -378,47 +366,40 @@ where
     R: Net + Wait + Clock + Files<File = File>,
 {
     let terms = terms_by(plan.grace);
-    let mut persister = match followed(rt, alloc, plan.config, store, pause, terms) {
+    let mut persister = match followed(
+        rt,
+        alloc,
+        plan.config,
+        store,
+        pause,
+        terms,
+        Opening::ToServe,
+    ) {
         Ok(persister) => persister,
         Err(failure) => return Err(failure),
     };
     warn_of_none(persister.told_terms(), errors);
     // Who kept the stays that are there at the start follows from the log.
-    let mut reply_queue = ReplyQueue::new(alloc);
+    let mut queue = ReplyQueue::new(alloc);
     if let Err(failure) = widen_followed(
         rt,
         alloc,
         plan.size_asked(),
-        &mut reply_queue,
+        &mut queue,
         &mut persister,
         errors,
     ) {
         return Err(failure);
     }
-    let Listening { listeners, file } = match listen(rt, alloc, plan.listen) {
-        Ok(listening) => listening,
-        Err(fault) => return Err(HostFailure::from(fault)),
-    };
     persister.choose_rules(plan.rules);
     let kind = persister.hall().config().world;
-    let mut attended = Attended::new(
-        reply_queue,
-        Stays::new(alloc),
-        plan.grace.is_some(),
-        plan.audit(alloc),
-    );
-    let hosted = host(
-        rt,
-        alloc,
-        plan.options(kind),
-        listeners,
-        &mut attended,
-        &mut persister,
-        audit,
-        output,
-        errors,
-    );
-    ended(rt, file, hosted.map_err(HostFailure::from))
+    let stays = Stays::new(alloc);
+    match serve(
+        rt, alloc, plan, kind, queue, stays, persister, audit, output, errors,
+    ) {
+        Ok(hosted) => hosted.map_err(HostFailure::from),
+        Err(fault) => Err(HostFailure::from(fault)),
+    }
 }
 
 /// Writes the accepted events of the history that stands in a log as the lines of commands that ask for them, and serves nobody.
@@ -451,14 +432,22 @@ fn export_followed<R: Files<File = File>, S: Store, P: Pause, W: Write>(
     output: &mut W,
 ) -> Result<(), HostFailure> {
     // It ends no stays, so that it may be of any terms.
-    match followed_any(rt, alloc, config, store, pause, HallTerms::Forever) {
+    match followed(
+        rt,
+        alloc,
+        config,
+        store,
+        pause,
+        HallTerms::Forever,
+        Opening::ToLook,
+    ) {
         Ok(persister) => write_events(alloc, persister.hall(), output),
         Err(failure) => Err(failure),
     }
 }
 
-// The file of an audit log, where one is named.
-fn open_audit<'a, R: Files<File = File>>(
+/// The file of an audit log, where one is named.
+pub(crate) fn open_audit<'a, R: Files<File = File>>(
     rt: &'a R,
     path: Option<&'a str>,
 ) -> Result<Option<AuditFile<'a, R>>, ErrorKind> {
@@ -480,6 +469,8 @@ fn open_audit<'a, R: Files<File = File>>(
 /// Where a log is named, the hall is that of all that stands in it, by whichever server of the hall it came there, and each reply is sent
 /// once its line stands there. Clients wait while the members do not answer, and are closed once the plan's patience ends.
 ///
+/// Where a file lists pools, each is such a hall, with a journal of its own, and clients choose one by their first line (`host_pool_file`).
+///
 /// The first lines written are `listening ADDRESS:PORT` and `listening PATH`, of what is listened on, and `metrics ADDRESS:PORT`; the last is
 /// `served N`. At a good end the file of the socket is removed. Where the journal cannot be written, nothing is sent of that
 /// turn, and the server ends.
@@ -499,6 +490,9 @@ pub fn host_hall<R, W: Write, E: Write>(
 where
     R: Net + Wait + Clock + Files<File = File> + AllocGlobal + Copy,
 {
+    if let Some(file) = plan.pools {
+        return host_pool_file(rt, alloc, plan, file, output, errors);
+    }
     let mut audit = match open_audit(rt, plan.log) {
         Ok(audit) => audit,
         Err(why) => return Err(HostFailure::AuditLog(why)),

@@ -1,4 +1,4 @@
-// Erased by bindings/rust/erase from crates/service_host/src/terms.rt, sha256 03d924fdb68a3ff010fac6000b0ed6db0cac40b791cc0380c619394f0b1e5d21.
+// Erased by bindings/rust/erase from crates/service_host/src/terms.rt, sha256 cda60fc5f10b8a08f7de704d77abdcb03d0c53f597d57a9f9b27f3c5ccae6ced.
 //! For how long stays go on in a hall over a log, and how an operator changes that.
 
 use crate::kit::alloc::Global;
@@ -32,31 +32,47 @@ pub(crate) fn terms_by(grace: Option<u64>) -> HallTerms {
     }
 }
 
-/// Opens the hall of a log, whatever that stands in, and whatever its terms and the size of its pool: all that stands there is applied.
+/// What the hall of a log is opened for.
+#[derive(Clone, Copy, Debug, PartialEq, Eq)]
+pub(crate) enum Opening {
+    /// To serve its clients by these terms, which have to be its own.
+    ToServe,
+    /// To serve nobody, whatever its terms.
+    ToLook,
+}
+
+/// Opens the hall of a log, whatever that stands in, and whatever the size of its pool: all that stands there is applied.
 ///
 /// # Errors
 ///
 /// - Those of `config_in`.
 /// - `NoToken`: the system gave no random bytes.
-/// - Those of `LogPersister::open_any`.
-pub(crate) fn followed_any<R: Files<File = File>, S: Store, P: Pause>(
+/// - Those of `LogPersister::open`, or of `LogPersister::open_any` where nobody is served.
+pub(crate) fn followed<R: Files<File = File>, S: Store, P: Pause>(
     rt: &R,
     alloc: Global,
     config: Config,
     store: S,
     pause: P,
     terms: HallTerms,
+    opening: Opening,
 ) -> Result<LogPersister<S, P>, HostFailure> {
     let (mut store, mut pause) = (store, pause);
     let config = match config_in(alloc, &mut store, &mut pause, config) {
         Ok(config) => config,
         Err(failure) => return Err(failure),
     };
-    match fresh_token(rt) {
-        Ok(token) => Ok(LogPersister::open_any(
+    let token = match fresh_token(rt) {
+        Ok(token) => token,
+        Err(failure) => return Err(failure),
+    };
+    match opening {
+        Opening::ToServe => Ok(LogPersister::open(
             alloc, store, pause, config, token, terms,
         )?),
-        Err(failure) => Err(failure),
+        Opening::ToLook => Ok(LogPersister::open_any(
+            alloc, store, pause, config, token, terms,
+        )?),
     }
 }
 
@@ -124,7 +140,7 @@ fn change_followed<R: Files<File = File>, S: Store, P: Pause, W: Write>(
     terms: HallTerms,
     output: &mut W,
 ) -> Result<(), HostFailure> {
-    let mut persister = match followed_any(rt, alloc, config, store, pause, terms) {
+    let mut persister = match followed(rt, alloc, config, store, pause, terms, Opening::ToLook) {
         Ok(persister) => persister,
         Err(failure) => return Err(failure),
     };

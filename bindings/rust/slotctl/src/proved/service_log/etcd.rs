@@ -1,8 +1,8 @@
-// Erased by bindings/rust/erase from crates/service_log/src/etcd.rt, sha256 f490f9cfb9ab8deffc93b21a3fdf36d0d6dde26d5697495045c574aa6cb23087.
+// Erased by bindings/rust/erase from crates/service_log/src/etcd.rt, sha256 061a448b70e50ad5160e3b2df5105bf3445eb2db917806dfd65fc0705a980f1d.
 //! A store over etcd: places that are written once, by the JSON gateway that each member of etcd has.
 //!
 //! The key of a place is its prefix and 16 digits. A put is a transaction that puts a value if its key was never
-//! created. A get asks for a range of keys, and the store keeps those after the first for its next calls. `put_text`
+//! created, and nothing says that the place was given up. A get asks for a range of keys, and the store keeps those after the first for its next calls. `put_text`
 //! and `get_text` return the texts of the requests (`specs/Requests`). `read_put` and `read_get` read the texts of the
 //! answers (`specs/Answers`). Keys and values are in base64, and etcd leaves out what is false or empty.
 //!
@@ -14,8 +14,11 @@
 //! read and write. After a fault the store drops the connection and asks the next member the same, each member at most
 //! twice. A put whose answer was lost then finds the place taken, by its own entry.
 //!
+//! A trim notes the place below which entries are given up, and deletes them by one transaction after another
+//! (`trim_text`). The first of them writes the note.
+//!
 //! Not proved, but trusted, since no contract can say what sockets carry: etcd holds what it answered, and never loses
-//! a key that it created. So nothing may delete a key under a prefix, and each log has its own prefix.
+//! a key that it created. So nothing but a trim may delete a key under a prefix, and each log has its own prefix.
 //!
 //! From `tests_log/src/etcd_tests.rt`, over texts in place of members:
 //!

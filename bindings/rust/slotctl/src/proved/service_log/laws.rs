@@ -1,4 +1,4 @@
-// Erased by bindings/rust/erase from crates/service_log/src/laws.rt, sha256 5c86b6215150548747238fed934c4972c68a6f49aeb788f67606073a3ae041b1.
+// Erased by bindings/rust/erase from crates/service_log/src/laws.rt, sha256 0a7fcfa261c9b74c04e7d114176c40b3571bf9c840d4dc5338d9a13bab1408a3.
 //! Laws of replicas, which run nothing.
 
 use crate::proved::service_log::machine::Machine;

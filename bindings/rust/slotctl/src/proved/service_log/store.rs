@@ -1,4 +1,4 @@
-// Erased by bindings/rust/erase from crates/service_log/src/store.rt, sha256 468a676ebe3823a1333523f2e0e4c7232c050e5b15964fb8a85d30c48ebdc676.
+// Erased by bindings/rust/erase from crates/service_log/src/store.rt, sha256 33e76400c480b27eed7873097a09dd902f1d789db3f638ff5ec5d9e349d023fc.
 //! Stores: logs whose places are written once.
 
 use crate::kit::Vec;
@@ -21,7 +21,7 @@ pub enum Put {
 /// No contract can say what a store over a network holds. The relations `stands` and `lacks` of such a store say
 /// nothing.
 pub trait Store: Sized {
-    /// Writes an entry at a place below `MOST_PLACES`, if the place is empty.
+    /// Writes an entry at a place below `MOST_PLACES`, if the place was never written.
     ///
     /// # Errors
     ///
@@ -33,7 +33,7 @@ pub trait Store: Sized {
     ///
     /// # Errors
     ///
-    /// A fault of `fails`. The log stays as it was.
+    /// A fault of `fails`. The log stays as it was. `Trimmed` is returned only if the entry was given up.
     fn get(&mut self, place: u64, entry: &mut Vec<u8>) -> Result<bool, StoreFault>;
 
     /// Returns the place that was noted last (`put_hint`), or `None` if there is none. It is a hint alone: any place may be
@@ -50,4 +50,20 @@ pub trait Store: Sized {
     ///
     /// A fault of `fails`. The log stays as it was, and the place may be noted.
     fn put_hint(&mut self, place: u64) -> Result<(), StoreFault>;
+
+    /// Gives up entries below a place, but never the first entry. These places stay taken for good (`law_of_trims`).
+    ///
+    /// One call may give up a part alone. It returns true if nothing is left to be given up below the place.
+    ///
+    /// # Errors
+    ///
+    /// A fault of `fails`. Entries below the place may be given up, unless it is `Gap`: a place below this one is empty.
+    fn trim(&mut self, place: u64) -> Result<bool, StoreFault>;
+
+    /// Returns the place below which entries were given up, or 0 if none were. It is a hint alone: any place may be returned.
+    ///
+    /// # Errors
+    ///
+    /// A fault of `fails`. The log stays as it was.
+    fn trimmed(&mut self) -> Result<u64, StoreFault>;
 }

@@ -1,4 +1,4 @@
-// Erased by bindings/rust/erase from crates/service_log/src/store_fault.rt, sha256 79bafe1d1aecbc3d79ceca11501a46c31754b1e5caf9a67b29950b7dbf3485e0.
+// Erased by bindings/rust/erase from crates/service_log/src/store_fault.rt, sha256 00198962a984a2c9e246238a8cf74150cffbbda3b8847cf212b1a2d2a496a366.
 //! Why a store does not answer.
 
 use crate::kit::thiserror::Error;
@@ -22,4 +22,7 @@ pub enum StoreFault {
     /// state.
     #[error("the log went back")]
     WentBack,
+    /// The entry at this place was given up (`Store::trim`). The place is taken for good.
+    #[error("the log was trimmed here")]
+    Trimmed,
 }

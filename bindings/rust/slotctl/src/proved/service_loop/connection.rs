@@ -1,4 +1,4 @@
-// Erased by bindings/rust/erase from crates/service_loop/src/connection.rt, sha256 218be287f0b7bc9c3cfef7625f0ebf9cdd8c5731594c9b47fd4801d4dcea96a3.
+// Erased by bindings/rust/erase from crates/service_loop/src/connection.rt, sha256 773ed4d3b8bac72bdbe2222e0b10dd252f6bd38380d808929d0846ff54362ce9.
 //! A connection: its stream, and what is held of it.
 
 use crate::kit::alloc::Allocator;
@@ -383,7 +383,8 @@ impl<S: Stream, A: Allocator> Connection<S, A> {
     }
 
     /// Takes a number, where the line that waits first takes one and there is room for the answer: by events of the service, one after another, of
-    /// which the last reply is the answer (`say_taking`). Where those who are called are patient, one that is refused since all are held waits on.
+    /// which the last reply is the answer (`say_taking`). Where those who are called are patient, one that waits for seconds and is refused since all are
+    /// held waits on.
     pub fn take_number<R, D: Service<R>, B: Allocator>(
         &mut self,
         rt: &R,
@@ -398,7 +399,7 @@ impl<S: Stream, A: Allocator> Connection<S, A> {
         }
         if let Some((identity, count)) = self.buffers.taking() {
             let reply = say_taking(rt, service, &mut shared.view, identity, wide, ahead);
-            if shared.patient && is_crowded(&reply) {
+            if shared.patient && 0 < self.buffers.wait() && is_crowded(&reply) {
                 return;
             }
             print_reply(reply, &shared.view, &mut shared.replies);

@@ -1,4 +1,4 @@
-// Erased by bindings/rust/erase from crates/service_loop/src/hosting.rt, sha256 35f2eb98d45e26406c80c49ed72464108e88205bb9e2d4a77d0b8610b88e434c.
+// Erased by bindings/rust/erase from crates/service_loop/src/hosting.rt, sha256 dcafceeed2f227284ec203feaa623d61f4c19bd2ac5d346c9a238cb3fcdea3bc.
 //! A server in one thread, by the readiness of its sockets.
 
 use crate::kit::alloc::{AllocError, Global};
@@ -9,7 +9,8 @@ use crate::kit::mio::event::Event;
 use crate::kit::mio::net::TcpListener;
 use crate::kit::mio::unix::SourceFd;
 use crate::kit::mio::{Events, Interest, Poll, Token};
-use crate::kit::net::Net;
+use crate::kit::net::{Net, SocketAddr};
+use crate::kit::os::fd::RawFd;
 use crate::kit::rt::Clock;
 use crate::kit::sync::Wait;
 use crate::kit::time::{Duration, Instant};
@@ -26,6 +27,7 @@ use crate::proved::service_loop::host_fault::HostFault;
 use crate::proved::service_loop::persist::Persist;
 use crate::proved::service_loop::releasing::end_due;
 use crate::proved::service_loop::shared::SharedBuffers;
+use crate::proved::service_loop::socket::Socket;
 use crate::proved::service_loop::take_queue::TakeQueue;
 use crate::proved::service_loop::taking::{prefetch_takings, serve_takings};
 use crate::proved::service_loop::teller::Teller;
@@ -45,6 +47,10 @@ const EVENTS: usize = 1024;
 
 /// The most connections that are accepted in one turn.
 const MOST_ACCEPTS: u32 = 1024;
+
+/// What is said once where the system has no room for one more connection.
+pub(crate) const FULL: &[u8] =
+    b"slotctl: no room for more connections; those that wait are accepted as others leave\n";
 
 /// How many seconds pass from one report to the next; the first is due at once.
 const REPORT_TICKS: u64 = 60;
@@ -88,7 +94,7 @@ pub struct Hosted {
 }
 
 /// A server under way.
-struct Hosting {
+pub(crate) struct Hosting {
     alloc: Global,
     options: HostOptions,
     poll: Poll,
@@ -104,6 +110,10 @@ struct Hosting {
     /// How many seconds were counted, and at which count the next report is due.
     tick: u64,
     report: u64,
+    /// Whether it is one of several, and others wait for the system: it never waits itself.
+    within: bool,
+    /// Whether the system told anything when it was last asked.
+    told: bool,
     /// Whether one could not be accepted, until one leaves.
     full: bool,
     /// Whether it was said that one could not be accepted.
@@ -188,13 +198,13 @@ where
     hosting.tell_end(output)
 }
 
-// A poll that tells of standard input when it ends.
-fn new_poll<R: Net>(rt: &R) -> io::Result<Poll> {
+/// A poll that tells under this token of standard input when it ends.
+pub(crate) fn new_poll<R: Net>(rt: &R, stopper: Token) -> io::Result<Poll> {
     let poll = Poll::new(rt)?;
     // A file or the null device cannot be waited for, and never stops the server.
     let _ = poll
         .registry()
-        .register(&mut SourceFd(&0), STOPPER, Interest::READABLE);
+        .register(&mut SourceFd(&0), stopper, Interest::READABLE);
     Ok(poll)
 }
 
@@ -215,6 +225,8 @@ struct Entrance {
     poll: Poll,
     doors: Doors,
     watch: Option<Watch>,
+    /// Whether others wait for the system, and let in who comes.
+    within: bool,
 }
 
 // Waits on listeners.
@@ -224,10 +236,27 @@ fn enter_at<R: Net>(rt: &R, alloc: Global, listeners: Listeners) -> io::Result<E
         local,
         metrics,
     } = listeners;
-    let poll = new_poll(rt)?;
+    let poll = new_poll(rt, STOPPER)?;
     let doors = Doors::new(&poll, network, local)?;
     let watch = watch_at(alloc, &poll, metrics)?;
-    Ok(Entrance { poll, doors, watch })
+    Ok(Entrance {
+        poll,
+        doors,
+        watch,
+        within: false,
+    })
+}
+
+// Waits for the connections that others let in.
+fn enter_within<R: Net>(rt: &R) -> io::Result<Entrance> {
+    let poll = Poll::new(rt)?;
+    let doors = Doors::new(&poll, None, None)?;
+    Ok(Entrance {
+        poll,
+        doors,
+        watch: None,
+        within: true,
+    })
 }
 
 // Whether an event is of those who watch, and noted then.
@@ -247,11 +276,48 @@ impl Hosting {
         listeners: Listeners,
         most_prefetched: Option<usize>,
     ) -> Result<Hosting, HostFault<F>> {
+        let entrance = enter_at(rt, alloc, listeners)?;
+        let teller = Teller::new(rt, alloc)?;
+        Hosting::entered(rt, alloc, options, entrance, teller, most_prefetched)
+    }
+
+    /// One of several, of this name: others wait for the system, and let in who comes.
+    ///
+    /// # Errors
+    ///
+    /// - `Memory`: an allocation failed.
+    /// - `Network`: what the system says.
+    pub(crate) fn within<R: Net + Clock, F>(
+        rt: &R,
+        alloc: Global,
+        options: HostOptions,
+        name: String,
+        most_prefetched: Option<usize>,
+    ) -> Result<Hosting, HostFault<F>> {
+        let entrance = enter_within(rt)?;
+        let teller = Teller::named(rt, alloc, name)?;
+        Hosting::entered(rt, alloc, options, entrance, teller, most_prefetched)
+    }
+
+    // Listens there.
+    fn entered<R: Clock, F>(
+        rt: &R,
+        alloc: Global,
+        options: HostOptions,
+        entrance: Entrance,
+        teller: Teller,
+        most_prefetched: Option<usize>,
+    ) -> Result<Hosting, HostFault<F>> {
         let start = Instant::now(rt)?;
         let Ok(events) = Events::with_capacity(alloc, EVENTS) else {
             return Err(HostFault::Memory);
         };
-        let Entrance { poll, doors, watch } = enter_at(rt, alloc, listeners)?;
+        let Entrance {
+            poll,
+            doors,
+            watch,
+            within,
+        } = entrance;
         let batch = match most_prefetched {
             Some(most) => Some(Batch::new(alloc, options.kind, most)),
             None => None,
@@ -268,6 +334,8 @@ impl Hosting {
             second: 0,
             tick: 0,
             report: 0,
+            within,
+            told: false,
             full: false,
             said: false,
             lost: false,
@@ -280,15 +348,40 @@ impl Hosting {
             looks: false,
             rotates: false,
             said_unwritten: false,
-            teller: Teller::new(rt, alloc)?,
+            teller,
             said_trouble: false,
             said_tenths: 0,
             watch,
         })
     }
 
+    /// The file descriptor by which others wait until the system has something to tell of it.
+    pub(crate) fn descriptor(&self) -> RawFd {
+        self.poll.as_raw_fd()
+    }
+
+    /// It is to end: what waits is sent for some rounds more.
+    pub(crate) fn stop(&mut self) {
+        self.stop = true;
+    }
+
+    /// How many connections it has.
+    pub(crate) fn clients(&self) -> usize {
+        self.connections.open
+    }
+
+    /// How many connections it has had.
+    pub(crate) fn accepted(&self) -> u64 {
+        self.connections.accepted()
+    }
+
+    /// Whether another round has something to do, with nothing more told by the system.
+    pub(crate) fn is_due(&self) -> bool {
+        self.told || self.stop || self.is_busy()
+    }
+
     // Once round: waits, accepts, has the persister go on, serves, and tells what was done, and how much there is where that is due or asked.
-    fn go_round<R: Clock, D: Service<R>, K: Persist<D>, L: AuditLog, E: Write>(
+    pub(crate) fn go_round<R: Clock, D: Service<R>, K: Persist<D>, L: AuditLog, E: Write>(
         &mut self,
         rt: &R,
         wide: bool,
@@ -363,8 +456,8 @@ impl Hosting {
         self.serve_watchers(service, persister);
     }
 
-    // Whether it is to end, and nothing waits to be sent or what waits had its time. Is asked once a round.
-    fn is_over(&mut self) -> bool {
+    /// Whether it is to end, and nothing waits to be sent or what waits had its time. Is asked once a round.
+    pub(crate) fn is_over(&mut self) -> bool {
         if !self.stop {
             return false;
         }
@@ -405,9 +498,9 @@ impl Hosting {
             || self.watch.is_some()
     }
 
-    // For how long nothing need be done: a tenth of a second at the end, no time where anything is due, a second where seconds are to be
-    // counted, else twenty.
-    fn next_wait(&self) -> Duration {
+    /// For how long nothing need be done: a tenth of a second at the end, no time where anything is due, a second where seconds are to be
+    /// counted, else twenty.
+    pub(crate) fn next_wait(&self) -> Duration {
         if self.stop {
             Duration::from_millis(100)
         } else if self.is_busy() {
@@ -422,7 +515,12 @@ impl Hosting {
     // Waits, and notes what the system tells. Who says nothing is closed only where all that the system has to tell was noted: a wait that
     // was interrupted tells nothing, and one that tells as much as there is room for may leave something untold.
     fn wait<R: Clock, F>(&mut self, rt: &R, audit: &mut Audit) -> Result<(), HostFault<F>> {
-        self.note_events(self.next_wait())?;
+        let most = if self.within {
+            Duration::from_millis(0)
+        } else {
+            self.next_wait()
+        };
+        self.told = self.note_events(most)?;
         self.note_tick(rt)?;
         audit.note_time(rt);
         if self.sweeps && !self.note_events(Duration::from_millis(0))? {
@@ -706,17 +804,30 @@ impl Hosting {
     // Accepts one connection, if one waits. Where the system has no room for it, none is accepted until another leaves.
     fn accept(&mut self, audit: &mut Audit) -> Result<(), AllocError> {
         match self.doors.accept() {
-            Accepted::Stream(stream, peer) => {
-                let kind = self.options.kind;
-                let admitted = self
-                    .connections
-                    .admit(self.alloc, &self.poll, kind, stream, self.tick)?;
-                if let Some(number) = admitted {
-                    audit.admit(number, peer)?;
-                }
-            }
+            Accepted::Stream(stream, peer) => self.welcome(stream, peer, audit)?,
             Accepted::Nobody => {}
             Accepted::Full => self.full = true,
+        }
+        Ok(())
+    }
+
+    /// Lets in one connection, from this address where it is of the network.
+    ///
+    /// # Errors
+    ///
+    /// `AllocError`: an allocation failed. The stream is closed.
+    pub(crate) fn welcome(
+        &mut self,
+        stream: Socket,
+        peer: Option<SocketAddr>,
+        audit: &mut Audit,
+    ) -> Result<(), AllocError> {
+        let kind = self.options.kind;
+        let admitted = self
+            .connections
+            .admit(self.alloc, &self.poll, kind, stream, self.tick)?;
+        if let Some(number) = admitted {
+            audit.admit(number, peer)?;
         }
         Ok(())
     }
@@ -725,10 +836,7 @@ impl Hosting {
     fn tell_full<E: Write>(&mut self, errors: &mut E) {
         if self.full && !self.said {
             self.said = true;
-            self.teller.tell(
-                b"slotctl: no room for more connections; those that wait are accepted as others leave\n",
-                errors,
-            );
+            self.teller.tell(FULL, errors);
         }
     }
 
@@ -828,8 +936,8 @@ impl Hosting {
         Ok(())
     }
 
-    // What the loop itself knows.
-    fn numbers(&self, audit: &Audit) -> LoopNumbers {
+    /// What the loop itself knows.
+    pub(crate) fn numbers(&self, audit: &Audit) -> LoopNumbers {
         LoopNumbers {
             clients: self.connections.open as u64,
             accepted: self.connections.accepted(),
@@ -869,8 +977,8 @@ impl Hosting {
     }
 }
 
-// Writes a line, where there was memory for it.
-fn put_line<W: Write, F>(
+/// Writes a line, where there was memory for it.
+pub(crate) fn put_line<W: Write, F>(
     line: Result<String, AllocError>,
     output: &mut W,
 ) -> Result<(), HostFault<F>> {

@@ -1,4 +1,4 @@
-// Erased by bindings/rust/erase from crates/service_loop/src/shared.rt, sha256 d03a467daf907c9afe14b362aa781a6af9d026c82b65321f087dde84eb1f30de.
+// Erased by bindings/rust/erase from crates/service_loop/src/shared.rt, sha256 c260b0764678b699bec4e9341511f0bef6744b2278afa48be7b77ddb4ee553f3.
 //! What the connections of a loop share.
 
 use crate::kit::alloc::Allocator;
@@ -23,7 +23,7 @@ pub struct SharedBuffers<A: Allocator> {
     pub share: usize,
     /// Whether a connection that had its turn since `share_among` left something to wait, as a line that asks who holds numbers or takes one.
     pub waits: bool,
-    /// Whether those who take numbers wait on where all are held.
+    /// Whether those who take numbers, and wait for seconds, wait on where all are held.
     pub patient: bool,
 }
 

@@ -1,4 +1,4 @@
-// Erased by bindings/rust/erase from crates/service_loop/src/socket.rt, sha256 dc58dc69d026c5ba22672db49ba995f45cbb017bca8a4b25571b64e30b76bd99.
+// Erased by bindings/rust/erase from crates/service_loop/src/socket.rt, sha256 14cb3ec8afa5fa63fa5850f9685d1e953367da76ebd7ebda3c94bec8acc83a1d.
 //! A stream of the system as a stream of the loop.
 
 use crate::kit::io;
@@ -34,6 +34,18 @@ impl Socket {
         match self {
             Socket::Network(stream) => poll.registry().register(stream, token, both),
             Socket::Local(stream) => poll.registry().register(stream, token, both),
+        }
+    }
+
+    /// Has a poll tell nothing of it any more.
+    ///
+    /// # Errors
+    ///
+    /// What the system says.
+    pub fn deregister(&mut self, poll: &Poll) -> io::Result<()> {
+        match self {
+            Socket::Network(stream) => poll.registry().deregister(stream),
+            Socket::Local(stream) => poll.registry().deregister(stream),
         }
     }
 

@@ -1,4 +1,4 @@
-// Erased by bindings/rust/erase from crates/service_loop/src/take_queue.rt, sha256 01cb511fe71485af083bec8b55f28cceee9ef51c5433047e2178144b02b72c29.
+// Erased by bindings/rust/erase from crates/service_loop/src/take_queue.rt, sha256 38ba082b323d06336db5d10089ccac094e2e9c87ce9ffba7a54687bab2cbf779.
 //! Those who wait for numbers, in the order in which they came.
 
 use crate::kit::alloc::{AllocError, Allocator, Global};
@@ -53,6 +53,11 @@ fn waits_for(identity: u64, wish: Option<TakeLine>) -> bool {
         Some(wish) => wish.identity == identity && 0 < wish.seconds,
         None => false,
     }
+}
+
+// Whether a number is taken by a line that is not to wait for one: it waits for no second, or is refused whatever is free.
+fn asks_at_once<D, K: Persist<D>>(service: &D, persister: &K, wish: TakeLine) -> bool {
+    wish.seconds == 0 || wish.identity == 0 || persister.has_stay(service, wish.identity)
 }
 
 // Whether one still waits where it sat.
@@ -130,14 +135,15 @@ impl TakeQueue {
         service: &D,
         persister: &K,
         seats: &[Option<Connection<S, A>>],
-        number: u64,
+        numbers: &[u64],
         key: usize,
         tick: u64,
     ) -> Result<(), AllocError> {
+        let number = number_at(numbers, key);
         let Some(wish) = wish_at(seats, key) else {
             return Ok(());
         };
-        if wish.seconds == 0 || wish.identity == 0 || persister.has_stay(service, wish.identity) {
+        if asks_at_once(service, persister, wish) {
             self.asking.push(key)?;
         } else if !self.has(number) {
             self.waiters.push(Waiter {
@@ -150,7 +156,8 @@ impl TakeQueue {
         Ok(())
     }
 
-    /// Notes who takes a number at these seats. Those who wait join behind all others, each once. Nobody waits whose identity is 0 or competes already.
+    /// Notes who takes a number at these seats. Those who wait join behind all others, each once. Nobody waits whose identity is 0 or competes already: those
+    /// ask at once, as they do whose lines wait for no second.
     ///
     /// # Errors
     ///
@@ -164,9 +171,9 @@ impl TakeQueue {
         ready: &[usize],
         tick: u64,
     ) -> Result<(), AllocError> {
+        self.asking.clear();
         for key in ready {
-            let number = number_at(numbers, *key);
-            self.note_at(service, persister, seats, number, *key, tick)?;
+            self.note_at(service, persister, seats, numbers, *key, tick)?;
         }
         Ok(())
     }
@@ -187,7 +194,6 @@ impl TakeQueue {
             add_late(&self.waiters, tick, &mut self.called)?;
             self.called.extend_from_slice(&self.asking)?;
         }
-        self.asking.clear();
         Ok(patient)
     }
 }

@@ -1,4 +1,4 @@
-// Erased by bindings/rust/erase from crates/service_loop/src/taking.rt, sha256 0d45b013e2a291469e47ce0450f7c2c22c7f83cc84df3219d8ececf1d4b855d7.
+// Erased by bindings/rust/erase from crates/service_loop/src/taking.rt, sha256 5772e1bcffaea70939e8c3f0f7532fc8639fb2371122feb99c83869b5bbb3b5c.
 //! Lines that take a number, after a turn of the loop: `take ID` is `enter ID`, and then in the wide world one `seek ID`, elsewhere `probe ID` as often
 //! as it takes.
 

@@ -1,4 +1,4 @@
-// Erased by bindings/rust/erase from crates/service_loop/src/teller.rt, sha256 a274fca5c0f0efb95a5fede68823ced777737be2d3aa29f4198fd936eda977a3.
+// Erased by bindings/rust/erase from crates/service_loop/src/teller.rt, sha256 a0c866518fea34c77cd371988621490489f138e608c5bb64c9108601212b621f.
 //! A standard error that holds up nobody.
 
 use crate::kit::alloc::Global;
@@ -8,6 +8,7 @@ use crate::kit::mio::unix::SourceFd;
 use crate::kit::mio::{Events, Interest, Poll, Token};
 use crate::kit::net::Net;
 use crate::kit::time::Duration;
+use crate::kit::String;
 
 /// The file descriptor of standard error.
 const STANDARD_ERROR: i32 = 2;
@@ -17,6 +18,8 @@ const STANDARD_ERROR: i32 = 2;
 pub struct Teller {
     poll: Poll,
     events: Events<Global>,
+    /// Of which pool it tells, where there are several.
+    name: Option<String>,
 }
 
 impl Teller {
@@ -29,7 +32,19 @@ impl Teller {
         Ok(Teller {
             poll: Poll::new(rt)?,
             events: Events::with_capacity(alloc, 1)?,
+            name: None,
         })
+    }
+
+    /// A teller of the pool of this name: `pool NAME: ` stands before each line.
+    ///
+    /// # Errors
+    ///
+    /// Those of `new`.
+    pub fn named<R: Net>(rt: &R, alloc: Global, name: String) -> io::Result<Teller> {
+        let mut teller = Teller::new(rt, alloc)?;
+        teller.name = Some(name);
+        Ok(teller)
     }
 
     // Whether standard error takes a line at once. What cannot be waited for, as a file, takes all at once.
@@ -51,8 +66,12 @@ impl Teller {
 
     /// Writes a line, of 4,096 bytes at most, into what stands for standard error.
     pub fn tell<E: Write>(&mut self, line: &[u8], errors: &mut E) {
-        if self.takes_line() {
-            let _ = errors.write_all(line);
+        if !self.takes_line() {
+            return;
         }
+        if let Some(name) = &self.name {
+            let _ = write!(errors, "pool {name}: ");
+        }
+        let _ = errors.write_all(line);
     }
 }

@@ -1,4 +1,4 @@
-// Erased by bindings/rust/erase from crates/service_loop/src/watching.rt, sha256 d46ad84329232d617a01c462569260b520f5f3dded9c74b9798a5ef806d34435.
+// Erased by bindings/rust/erase from crates/service_loop/src/watching.rt, sha256 7935ba7650cca8faf9504791581a33c5abbead4d8092aa2c02650b516f385fb8.
 //! Those who watch a server.
 
 use crate::kit::io;
@@ -55,6 +55,23 @@ fn age_of(place: Option<u64>, tick: u64, placed: u64) -> Option<u64> {
     }
 }
 
+/// What those who ask get, where the place of the log came at this tick.
+pub fn numbers_of(loops: &LoopNumbers, tally: &Tally, placed: u64) -> Numbers {
+    Numbers {
+        clients: loops.clients,
+        accepted: loops.accepted,
+        faults: loops.faults,
+        lines: loops.lines,
+        ticks: loops.ticks,
+        releases: loops.releases,
+        refusals: loops.refusals,
+        audit_lines_lost: loops.audit_lines_lost,
+        ready: loops.learnt && may_answer(tally.log_answers),
+        tally: *tally,
+        log_age: age_of(tally.log_place, loops.ticks, placed),
+    }
+}
+
 impl Watch {
     /// By those who ask.
     pub fn new(scrapers: Scrapers) -> Watch {
@@ -104,18 +121,6 @@ impl Watch {
 
     /// What those who ask get.
     pub fn numbers(&self, loops: &LoopNumbers, tally: &Tally) -> Numbers {
-        Numbers {
-            clients: loops.clients,
-            accepted: loops.accepted,
-            faults: loops.faults,
-            lines: loops.lines,
-            ticks: loops.ticks,
-            releases: loops.releases,
-            refusals: loops.refusals,
-            audit_lines_lost: loops.audit_lines_lost,
-            ready: loops.learnt && may_answer(tally.log_answers),
-            tally: *tally,
-            log_age: age_of(tally.log_place, loops.ticks, self.placed),
-        }
+        numbers_of(loops, tally, self.placed)
     }
 }

@@ -1,4 +1,4 @@
-// Erased by bindings/rust/erase from crates/service_watch/src/answer.rt, sha256 6466b52210ade58d80006004af20a1d0f8182bb3b2d1659b69c14a16e9e5e86b.
+// Erased by bindings/rust/erase from crates/service_watch/src/answer.rt, sha256 34664a166fd39e455ac299ea9b34ff357a61a96a37980b6fee42880cb598134b.
 //! What a request is answered.
 
 use crate::kit::alloc::{AllocError, Global};
@@ -109,4 +109,30 @@ pub fn put_answer(
     put_body(asked, numbers, &mut body)?;
     put_head(asked, numbers.ready, body.len(), answer)?;
     answer.extend_from_slice(&body)
+}
+
+// The body of an answer, where this is the page.
+fn body_of<'a>(asked: Asked, ready: bool, page: &'a [u8]) -> &'a [u8] {
+    match asked {
+        Asked::Page => page,
+        Asked::Alive | Asked::Ready | Asked::Nowhere | Asked::OtherMethod | Asked::Unreadable => {
+            text_of(asked, ready).as_bytes()
+        }
+    }
+}
+
+/// Appends what is answered to a request where this is the page, and clients are answered or not.
+///
+/// # Errors
+///
+/// `AllocError`: an allocation failed. A part of the answer may stand there.
+pub fn put_answer_of(
+    asked: Asked,
+    ready: bool,
+    page: &[u8],
+    answer: &mut Vec<u8>,
+) -> Result<(), AllocError> {
+    let body = body_of(asked, ready, page);
+    put_head(asked, ready, body.len(), answer)?;
+    answer.extend_from_slice(body)
 }

@@ -1,4 +1,4 @@
-// Erased by bindings/rust/erase from crates/service_watch/src/scraper.rt, sha256 c3dd255df1a6f48cd94b54b7ded787ed388277e1f73e559f3142ff6d362be7ed.
+// Erased by bindings/rust/erase from crates/service_watch/src/scraper.rt, sha256 531e9d1bb6f4a7eb0f29219ce32300e08584de21c1bf3dbc2008fbe64c8f4538.
 //! One who asks for a page.
 
 use crate::kit::alloc::{AllocError, Global};
@@ -8,7 +8,7 @@ use crate::kit::mio::event::Event;
 use crate::kit::mio::net::TcpStream;
 use crate::kit::net::Shutdown;
 use crate::kit::Vec;
-use crate::proved::service_watch::answer::put_answer;
+use crate::proved::service_watch::answer::{put_answer, put_answer_of};
 use crate::proved::service_watch::numbers::Numbers;
 use crate::proved::service_watch::request::{asked_by, Asked, MOST_REQUEST};
 
@@ -149,6 +149,15 @@ impl Scraper {
         if let Some(asked) = self.asked {
             self.answered = true;
             let put: Result<(), AllocError> = put_answer(alloc, asked, numbers, &mut self.answer);
+            self.over = self.over || put.is_err();
+        }
+    }
+
+    /// Gives it its answer, where this is the page, and clients are answered or not.
+    pub fn answer_by(&mut self, ready: bool, page: &[u8]) {
+        if let Some(asked) = self.asked {
+            self.answered = true;
+            let put: Result<(), AllocError> = put_answer_of(asked, ready, page, &mut self.answer);
             self.over = self.over || put.is_err();
         }
     }

@@ -1,4 +1,4 @@
-// Erased by bindings/rust/erase from crates/service_watch/src/scrapers.rt, sha256 9444da77386701e820223d77764b14bbd993796252b6aa408cc1db21986063be.
+// Erased by bindings/rust/erase from crates/service_watch/src/scrapers.rt, sha256 81f4624b9fbe39d9ea7fdbe3fabfd59e97c30d2020c2e33b38257e8a8a6049e6.
 //! Those who ask for pages.
 
 use crate::kit::alloc::{AllocError, Global};
@@ -198,6 +198,17 @@ impl Scrapers {
             if let Some(scraper) = seat {
                 if scraper.wants_answer() {
                     scraper.answer(self.alloc, numbers);
+                }
+            }
+        }
+    }
+
+    /// Answers those who asked, where this is the page, and clients are answered or not.
+    pub fn answer_by(&mut self, ready: bool, page: &[u8]) {
+        for seat in &mut self.seats {
+            if let Some(scraper) = seat {
+                if scraper.wants_answer() {
+                    scraper.answer_by(ready, page);
                 }
             }
         }

@@ -1,4 +1,4 @@
-// Erased by bindings/rust/erase from crates/service_watch/src/tests.rt, sha256 77aecd27cac024286ff1cf02df88ab4a2835d7185eb08d5867087e14268e528f.
+// Erased by bindings/rust/erase from crates/service_watch/src/tests.rt, sha256 a8e050dfa3cef93d15846f19f71f30dc5e2b6ecc8744923098e64ba9c1740542.
 use crate::kit::Vec;
 use crate::kit::HostRuntime;
 use crate::proved::service_watch::durations::DurationHistogram;
@@ -87,12 +87,12 @@ fn has_line(page: &[u8], line: &str) -> bool {
         .any(|found| found == line.as_bytes())
 }
 
-#[test]
-fn each_number_has_its_line(rt: HostRuntime) {
+// The numbers of a server that knows all of them.
+fn many() -> Numbers {
     let mut syncs = DurationHistogram::new();
     syncs.note(Duration::from_micros(150));
     syncs.note(Duration::from_micros(2_000_007));
-    let numbers = Numbers {
+    Numbers {
         ready: false,
         audit_lines_lost: Some(12),
         tally: Tally {
@@ -109,29 +109,36 @@ fn each_number_has_its_line(rt: HostRuntime) {
         },
         log_age: Some(11),
         ..few()
-    };
+    }
+}
+
+// The lines of their page that the page of few numbers has not.
+const MANY: [&str; 18] = [
+    "slotctl_ready 0",
+    "slotctl_audit_lines_lost_total 12",
+    "slotctl_history_events_left 999993",
+    "slotctl_compactions_total 4",
+    "slotctl_competitors 5",
+    "slotctl_numbers_free 6",
+    "slotctl_names_given 8",
+    "slotctl_journal_bytes 9",
+    "slotctl_journal_sync_last_seconds 2.000007",
+    "slotctl_journal_sync_seconds_bucket{le=\"0.000100\"} 0",
+    "slotctl_journal_sync_seconds_bucket{le=\"0.000200\"} 1",
+    "slotctl_journal_sync_seconds_bucket{le=\"1.000000\"} 1",
+    "slotctl_journal_sync_seconds_bucket{le=\"+Inf\"} 2",
+    "slotctl_journal_sync_seconds_sum 2.000157",
+    "slotctl_journal_sync_seconds_count 2",
+    "slotctl_log_place 10",
+    "slotctl_log_entries_since_compaction 13",
+    "slotctl_log_append_age_seconds 11",
+];
+
+#[test]
+fn each_number_has_its_line(rt: HostRuntime) {
     let mut page = Vec::new(rt.alloc());
-    assert_eq!(rt; put_page(&numbers, &mut page).is_ok(), true);
-    for line in [
-        "slotctl_ready 0",
-        "slotctl_audit_lines_lost_total 12",
-        "slotctl_history_events_left 999993",
-        "slotctl_compactions_total 4",
-        "slotctl_competitors 5",
-        "slotctl_numbers_free 6",
-        "slotctl_names_given 8",
-        "slotctl_journal_bytes 9",
-        "slotctl_journal_sync_last_seconds 2.000007",
-        "slotctl_journal_sync_seconds_bucket{le=\"0.000100\"} 0",
-        "slotctl_journal_sync_seconds_bucket{le=\"0.000200\"} 1",
-        "slotctl_journal_sync_seconds_bucket{le=\"1.000000\"} 1",
-        "slotctl_journal_sync_seconds_bucket{le=\"+Inf\"} 2",
-        "slotctl_journal_sync_seconds_sum 2.000157",
-        "slotctl_journal_sync_seconds_count 2",
-        "slotctl_log_place 10",
-        "slotctl_log_entries_since_compaction 13",
-        "slotctl_log_append_age_seconds 11",
-    ] {
+    assert_eq!(rt; put_page(&many(), &mut page).is_ok(), true);
+    for line in MANY {
         assert_eq!(rt; (line, has_line(&page, line)), (line, true));
     }
 }

@@ -1,4 +1,4 @@
-// Erased by bindings/rust/erase from crates/tool_work/src/asked.rt, sha256 6e4c76bf5a1a9a455d54a8da95007191395d193f79e05c8c8f93985a23474151.
+// Erased by bindings/rust/erase from crates/tool_work/src/asked.rt, sha256 bf67c317417ed7a922afe46db4e52f6c7a894cd893ed601eea9aaf4b18fa2140.
 //! What the program can be asked for.
 
 use crate::kit::net::IpAddr;
@@ -297,6 +297,8 @@ pub struct Hosting<'a> {
     pub verbose: bool,
     /// The file to which it appends who took numbers, gave them back or was refused, where one is named.
     pub log: Option<&'a str>,
+    /// The file that lists its pools, where one is named.
+    pub pools: Option<&'a str>,
 }
 
 impl<'a> Hosting<'a> {
@@ -312,6 +314,7 @@ impl<'a> Hosting<'a> {
         keeping: Keeping<'a>,
         verbose: bool,
         log: Option<&'a str>,
+        pools: Option<&'a str>,
     ) -> Option<Hosting<'a>> {
         if clients < 1 || 1_000_000 < clients || 31_536_000 < idle {
             return None;
@@ -330,6 +333,7 @@ impl<'a> Hosting<'a> {
             keeping,
             verbose,
             log,
+            pools,
         })
     }
 }

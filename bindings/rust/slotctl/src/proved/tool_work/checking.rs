@@ -1,4 +1,4 @@
-// Erased by bindings/rust/erase from crates/tool_work/src/checking.rt, sha256 821c301462d53f26bf77621d1c62b0f83cd8dfcb71e09705d56e94ab92994376.
+// Erased by bindings/rust/erase from crates/tool_work/src/checking.rt, sha256 7115801069f82c49e1804cc16cc9d74b8d0af304effb9091718d26ce7e854996.
 //! The check of a record that a reader gives.
 
 use crate::kit::alloc::{Allocator, Global};

@@ -1,4 +1,4 @@
-// Erased by bindings/rust/erase from crates/tool_work/src/command_line.rt, sha256 447216f282792345893d909644ee18bdd1d82e0ef90af12f91cb22bbf38a414e.
+// Erased by bindings/rust/erase from crates/tool_work/src/command_line.rt, sha256 7dd2937d6ffbbf2e428024515d10afb19ca5cb51372ddde3ecee3e925646b70a.
 //! The command line of the program, for `clap`.
 
 use crate::kit::alloc::{AllocError, Global};
@@ -253,6 +253,7 @@ const HOST: Manual = Manual {
   slotctl host --port 7070 --journal slots.record --new
   slotctl host --unix /run/slotctl/socket --mode 660 --metrics 9470 --journal slots.record
   slotctl host --port 7070 --hold connection --grace 30
+  slotctl host --port 7070 --pools pools.conf --journal journals --new
   slotctl host --port 7070 --etcd 10.0.0.1:2379,10.0.0.2:2379 --prefix slots/
   slotctl host --etcd 10.0.0.1:2379 --prefix slots/ --export | slotctl play",
     choices: &[
@@ -343,7 +344,7 @@ const HOST: Manual = Manual {
         Choice {
             name: "prefix",
             takes: Takes::Text("NAME"),
-            help: "what the keys of the history in etcd begin with; all servers of one hall have the same, and nothing is deleted there",
+            help: "what the keys of the history in etcd begin with; all servers of one hall have the same, and nobody else deletes any there",
         },
         Choice {
             name: "patience",
@@ -370,6 +371,12 @@ const HOST: Manual = Manual {
             takes: Takes::Text("FILE"),
             help: "appends to a file a line of JSON for each number taken or given back and each refusal 8, 9 or 10, \
                 with the time and the peer; moved away it is made anew",
+        },
+        Choice {
+            name: "pools",
+            takes: Takes::Text("FILE"),
+            help: "hosts the pools that a file lists: in each line NAME NUMBERS, and then nothing, forever, or the seconds of its grace time; clients \
+                say pool NAME first, --k counts for none, and --journal and --log name folders, with a file for each pool",
         },
     ],
 };

@@ -1,4 +1,4 @@
-// Erased by bindings/rust/erase from crates/tool_work/src/drawn.rt, sha256 0a8dd00463ff6854c03427806ef26261d8f1e3f24ef594bfb7907cc782ed5281.
+// Erased by bindings/rust/erase from crates/tool_work/src/drawn.rt, sha256 480d2a7f4687f97fb24c304fbf0b760127383a85d0b02b81232bfed326e021eb.
 //! Schedules that are drawn by the words of a generator, and what becomes of their participants.
 //!
 //! In a drawn schedule (`Schedule`) the identities from 1 begin, and then a number of steps are taken. Each step is
@@ -9,7 +9,7 @@
 //! there are, and that they run at the same time.
 //!
 //! What is proved: `draw_schedule` writes exactly the text of the generator's words (`ok`; `part` at a fault). Each
-//! line of `play_schedules` has the three numbers of a run of its schedule (`ok`; `part` at a fault). That is the run
+//! line of `play_schedules` has the three numbers of a run of its schedule (`HasDrawnInto`). That is the run
 //! of the configuration's desk if no allocation fails. The memory of a run is in an arena that is reset before the
 //! next.
 //!

@@ -1,4 +1,4 @@
-// Erased by bindings/rust/erase from crates/tool_work/src/words.rt, sha256 92daa1168d99f06fe5561450746a1186ceb493417efb2e16209e02e1307d6a69.
+// Erased by bindings/rust/erase from crates/tool_work/src/words.rt, sha256 b90247bcae9d3e0e47be51cb6dc7146e6e460f80e1d28a4971bb093574460f5e.
 //! What the words of a command line ask for.
 
 use crate::kit::alloc::Global;
@@ -278,6 +278,7 @@ fn host_given<'a>(matches: &ArgMatches<'a>) -> Option<Hosting<'a>> {
     let keeping = keeping_given(matches)?;
     let verbose = flag_given(matches, "verbose");
     let log = text_given(matches, "log");
+    let pools = text_given(matches, "pools");
     Hosting::new(
         config,
         admissions,
@@ -289,6 +290,7 @@ fn host_given<'a>(matches: &ArgMatches<'a>) -> Option<Hosting<'a>> {
         keeping,
         verbose,
         log,
+        pools,
     )
 }
 

@@ -1,4 +1,4 @@
-// Erased by bindings/rust/erase from crates/service_log/src/etcd/answer.rt, sha256 c27a1189d067a509cce7447ba0b61f9596f9b2e676f0b3fffdc124b929d3a3e4.
+// Erased by bindings/rust/erase from crates/service_log/src/etcd/answer.rt, sha256 bf916b28cc88808b0c1f337ee81c8d8e78ea2a1914bb1ba5217cf1e6c7d4f2a1.
 //! The answers of etcd.
 
 use crate::kit::alloc::Global;
@@ -7,6 +7,7 @@ use crate::kit::base64::DecodeAllocError;
 use crate::kit::json::{Error, Scratch, Value};
 use crate::kit::Vec;
 use crate::proved::service_log::etcd::key::{hint_key64, key64};
+use crate::proved::service_log::etcd::request::forget_text;
 use crate::proved::service_log::store::Put;
 use crate::proved::service_log::store_fault::StoreFault;
 
@@ -198,5 +199,73 @@ pub fn read_hint(alloc: Global, body: &[u8], prefix: &str) -> Result<Option<u64>
         Some(Some(text)) => Ok(place_of(&decoded(alloc, text)?)),
         Some(None) => Ok(None),
         None => Err(StoreFault::Wrong),
+    }
+}
+
+/// What is noted of entries that were given up: those below a place, and the place before which they were deleted.
+#[derive(Clone, Copy, Debug, PartialEq, Eq)]
+pub struct Gone {
+    /// All entries below this place were given up, but the first.
+    pub below: u64,
+    /// Those before this place were deleted, but the first.
+    pub deleted: u64,
+}
+
+// Returns the base64 value of the first entry of an answer, if there is one.
+fn first_value<'v>(answer: &Value<'v>) -> Option<&'v str> {
+    answer.get("kvs")?.at(0)?.get("value")?.as_str()
+}
+
+// Returns what two places in 16 digits each note, or `None` of other bytes.
+fn gone_of(digits: &[u8]) -> Option<Gone> {
+    let (below, deleted) = digits.split_at_checked(16)?;
+    Some(Gone {
+        below: place_of(below)?,
+        deleted: place_of(deleted)?,
+    })
+}
+
+/// Reads the body of an answer to a request that gets what was noted of entries that were given up. Returns `None` if
+/// nothing was noted. Not proved: which places it returns. No entry hangs on them: a put compares the keys themselves.
+///
+/// # Errors
+///
+/// - `Memory`: an allocation failed.
+/// - `Wrong`: the body is no such answer.
+pub fn read_gone(alloc: Global, body: &[u8]) -> Result<Option<Gone>, StoreFault> {
+    let mut scratch = Scratch::new(alloc);
+    let answer = parsed(alloc, body, &mut scratch)?;
+    if answer.get("header").is_none() {
+        return Err(StoreFault::Wrong);
+    }
+    let Some(text) = first_value(&answer) else {
+        return Ok(None);
+    };
+    match gone_of(&decoded(alloc, text)?) {
+        Some(gone) => Ok(Some(gone)),
+        None => Err(StoreFault::Wrong),
+    }
+}
+
+// Returns the revision of the store at which it answered, in digits, or `None` if the JSON is no answer.
+fn revision_said<'v>(answer: &Value<'v>) -> Option<&'v str> {
+    answer.get("header")?.get("revision")?.as_str()
+}
+
+/// Returns the text of the request that lets etcd forget what its keys held before the revision at which it answered.
+///
+/// # Errors
+///
+/// - `Memory`: an allocation failed.
+/// - `Wrong`: the body is no answer.
+pub fn forget_text_of(alloc: Global, body: &[u8]) -> Result<Vec<u8>, StoreFault> {
+    let mut scratch = Scratch::new(alloc);
+    let answer = parsed(alloc, body, &mut scratch)?;
+    let Some(revision) = revision_said(&answer) else {
+        return Err(StoreFault::Wrong);
+    };
+    match forget_text(alloc, revision) {
+        Ok(text) => Ok(text),
+        Err(_) => Err(StoreFault::Memory),
     }
 }

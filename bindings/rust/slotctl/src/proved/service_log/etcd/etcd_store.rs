@@ -1,15 +1,17 @@
-// Erased by bindings/rust/erase from crates/service_log/src/etcd/etcd_store.rt, sha256 fcee49bc2fdf4ab19c2d01a2146897232d114db005a390cf29a4d0a8e7dcfbec.
+// Erased by bindings/rust/erase from crates/service_log/src/etcd/etcd_store.rt, sha256 811d457fc9c8f5a99a21e7f5da90564f51bf923294e8239271a23fc712d89047.
 //! A store over etcd.
 
 use crate::kit::alloc::Global;
 use crate::kit::http1::{Client, Limits};
 use crate::kit::String;
 use crate::kit::Vec;
-use crate::proved::service_log::etcd::answer::{read_get, read_hint, read_put};
+use crate::proved::service_log::etcd::answer::{
+    forget_text_of, read_get, read_gone, read_hint, read_put, Gone,
+};
 use crate::proved::service_log::etcd::dial::Dial;
 use crate::proved::service_log::etcd::exchange::exchange;
 use crate::proved::service_log::etcd::request::{
-    get_text, hint_text, one_text, put_behind_text, put_hint_text, put_text,
+    get_text, gone_text, hint_text, one_text, put_behind_text, put_hint_text, put_text, trim_text,
 };
 use crate::proved::service_log::store::{Put, Store, MOST_PLACES};
 use crate::proved::service_log::store_fault::StoreFault;
@@ -22,6 +24,9 @@ const NO_SPACE: &[u8] = b"etcdserver: mvcc: database space exceeded";
 
 /// The most places that one request gets.
 const MOST_FOUND: usize = 256;
+
+/// The most entries that one request deletes. etcd takes 128 operations in a transaction.
+const MOST_DELETED: u64 = 100;
 
 // A connection that is kept open.
 struct Kept<S> {
@@ -56,12 +61,13 @@ fn take_first(found: &mut Vec<Vec<u8>>, stood: &[u8]) -> Result<(), StoreFault> 
 
 /// The places under a prefix in etcd. It asks the members in turn, and after a fault the next one.
 ///
-/// Nothing may delete a key under the prefix, since a deleted place could be written again. Each log needs its own
-/// prefix.
+/// Nothing but `trim` may delete a key under the prefix: it notes the place below which entries are given up in the
+/// transaction that deletes the first of them, and each put asks that no such note is of its place or a later one. Each log
+/// needs its own prefix. The first entry stays, so that each start finds it.
 ///
 /// Each put checks that the place before it still holds what this store wrote or read there last. So does each get that
 /// asks a member. If it does not, etcd was put back to an older state. A put then writes nothing and returns `Taken`,
-/// and a get returns the fault `WentBack`.
+/// and a get returns the fault `WentBack`, or `Trimmed` where that entry was given up.
 pub struct EtcdStore<D: Dial> {
     alloc: Global,
     dial: D,
@@ -211,6 +217,62 @@ impl<D: Dial> EtcdStore<D> {
         Ok(())
     }
 
+    // Returns what is noted of entries that were given up, or `None` if nothing is.
+    fn ask_gone(&mut self) -> Result<Option<Gone>, StoreFault> {
+        let Ok(text) = gone_text(self.alloc, self.prefix.as_str()) else {
+            return Err(StoreFault::Memory);
+        };
+        let body = self.ask(b"/v3/kv/range", &text)?;
+        read_gone(self.alloc, &body)
+    }
+
+    // Whether what was asked from a place on leaves it open that the entry there, or the one before, was given up. The first
+    // entry is never deleted. Behind another one that stands, a place that is empty was never written.
+    fn may_be_gone(&self, place: u64, asked: Result<(), StoreFault>) -> bool {
+        match asked {
+            Ok(()) if place == 1 || self.stood_before(place).is_none() => {
+                0 < place && self.ahead.is_empty()
+            }
+            Ok(()) => false,
+            Err(fault) => matches!(fault, StoreFault::WentBack | StoreFault::Wrong),
+        }
+    }
+
+    // Asks for the entries at the places from `place` on. The fault is `Trimmed` where the one there, or the one before, was
+    // given up.
+    fn ask_kept(&mut self, place: u64) -> Result<(), StoreFault> {
+        let asked = self.ask_from(place);
+        if !self.may_be_gone(place, asked) {
+            return asked;
+        }
+        match self.ask_gone()? {
+            Some(gone) if place <= gone.below => Err(StoreFault::Trimmed),
+            _ => asked,
+        }
+    }
+
+    // Notes that entries below a place are given up, and deletes the next of them, from `deleted` on. Returns the place
+    // before which they are deleted then, and the answer.
+    fn delete_some(&mut self, place: u64, deleted: u64) -> Result<(u64, Vec<u8>), StoreFault> {
+        let to = place.min(deleted.saturating_add(MOST_DELETED));
+        let Ok(text) = trim_text(self.alloc, self.prefix.as_str(), place, deleted, to) else {
+            return Err(StoreFault::Memory);
+        };
+        let body = self.ask(b"/v3/kv/txn", &text)?;
+        match read_put(self.alloc, &body)? {
+            Put::Written => Ok((to, body)),
+            // No entry is at the place, or a later one was noted: nothing is left to be done.
+            Put::Taken => Ok((place, body)),
+        }
+    }
+
+    // Has etcd forget what its keys held before an answer. Not proved: nothing hangs on it, and a fault changes nothing.
+    fn forget(&mut self, answer: &[u8]) {
+        if let Ok(text) = forget_text_of(self.alloc, answer) {
+            let _ = self.ask_once(b"/v3/kv/compaction", &text);
+        }
+    }
+
     // Returns the text of the request that puts an entry at a place, after what was written or read there last.
     fn text_of_put(&self, place: u64, entry: &[u8]) -> Result<Vec<u8>, StoreFault> {
         let prefix = self.prefix.as_str();
@@ -244,7 +306,7 @@ impl<D: Dial> Store for EtcdStore<D> {
             return Ok(false);
         }
         if self.place != place || self.ahead.is_empty() {
-            self.ask_from(place)?;
+            self.ask_kept(place)?;
         }
         let Some(found) = self.ahead.pop() else {
             return Ok(false);
@@ -273,5 +335,31 @@ impl<D: Dial> Store for EtcdStore<D> {
         };
         self.ask(b"/v3/kv/put", &text)?;
         Ok(())
+    }
+
+    fn trim(&mut self, place: u64) -> Result<bool, StoreFault> {
+        if place < 2 {
+            return Ok(true);
+        }
+        let deleted = match self.ask_gone()? {
+            Some(gone) => gone.deleted.max(1),
+            None => 1,
+        };
+        if place <= deleted {
+            return Ok(true);
+        }
+        let (to, answer) = self.delete_some(place, deleted)?;
+        if to < place {
+            return Ok(false);
+        }
+        self.forget(&answer);
+        Ok(true)
+    }
+
+    fn trimmed(&mut self) -> Result<u64, StoreFault> {
+        match self.ask_gone()? {
+            Some(gone) => Ok(gone.below),
+            None => Ok(0),
+        }
     }
 }

@@ -1,4 +1,4 @@
-// Erased by bindings/rust/erase from crates/service_log/src/etcd/key.rt, sha256 64f82865b37614d1b37262562626be1f4ee3598cfd55bf69ab6513d4ae57aef7.
+// Erased by bindings/rust/erase from crates/service_log/src/etcd/key.rt, sha256 890e96f61cfa05fa99c60205185cb2eacbf85ca44281b2a5dc17bcf0be228692.
 //! The key of a place.
 
 use crate::kit::alloc::{AllocError, Global};
@@ -58,4 +58,44 @@ pub fn hint_key64(alloc: Global, prefix: &str) -> Result<String, AllocError> {
     let mut key = Vec::from_slice(alloc, prefix.as_bytes())?;
     key.extend_from_slice(b"last")?;
     STANDARD.encode(alloc, &key)
+}
+
+// Returns a prefix, the word `gone` and one more byte.
+fn gone(alloc: Global, prefix: &str, end: u8) -> Result<Vec<u8>, AllocError> {
+    let mut key = Vec::from_slice(alloc, prefix.as_bytes())?;
+    key.extend_from_slice(b"gone")?;
+    key.push(end)?;
+    Ok(key)
+}
+
+/// Returns the key under a prefix that says that entries up to a place were given up, in base64: the prefix, `gone`, a zero
+/// byte, and the place in 16 digits.
+///
+/// # Errors
+///
+/// `AllocError`: an allocation failed.
+pub fn gone_key64(alloc: Global, prefix: &str, place: u64) -> Result<String, AllocError> {
+    let mut noted = gone(alloc, prefix, 0)?;
+    push_digits(&mut noted, 16, place)?;
+    STANDARD.encode(alloc, &noted)
+}
+
+/// Returns the first key behind all those of `gone_key64`, in base64.
+///
+/// # Errors
+///
+/// `AllocError`: an allocation failed.
+pub fn gone_end64(alloc: Global, prefix: &str) -> Result<String, AllocError> {
+    STANDARD.encode(alloc, &gone(alloc, prefix, 1)?)
+}
+
+/// Returns two places in 16 digits each, as they are noted where entries are given up.
+///
+/// # Errors
+///
+/// `AllocError`: an allocation failed.
+pub fn places_text(alloc: Global, one: u64, other: u64) -> Result<Vec<u8>, AllocError> {
+    let mut text = place_text(alloc, one)?;
+    push_digits(&mut text, 16, other)?;
+    Ok(text)
 }

@@ -1,4 +1,4 @@
-// Erased by bindings/rust/erase from crates/tool_work/src/drawn/jobs.rt, sha256 550468b005cc1b56a8ad554420d171b20027f4d3f500917ed625b8c30991d2bc.
+// Erased by bindings/rust/erase from crates/tool_work/src/drawn/jobs.rt, sha256 8344ad29f3c4b367fb9bd5f366a4e162360fcd8249b83e4fe1364e1d80a22d7e.
 //! Drawn runs by many threads.
 
 use crate::kit::alloc::Global;

@@ -1,4 +1,4 @@
-// Erased by bindings/rust/erase from crates/tool_work/src/drawn/runs.rt, sha256 e7123c226984d7ab66586d92566672b197eb64b693fbfbd4918be5f0751e3a84.
+// Erased by bindings/rust/erase from crates/tool_work/src/drawn/runs.rt, sha256 f5857cc01fa16f478eddcebac9871a2ca57cfaa0f995a818453afc78cad1d69c.
 //! Runs of drawn schedules.
 
 use crate::kit::alloc::Allocator;

@@ -1,4 +1,4 @@
-// Erased by bindings/rust/erase from crates/tool_work/src/page/state.rt, sha256 a75892ffe7904e717bea115e970ffc508e179701e8bfff25e672dd74616777da.
+// Erased by bindings/rust/erase from crates/tool_work/src/page/state.rt, sha256 406272984fba38d20bb5048ffe936531f1636d3d004b1a1be04c40ee683dec60.
 //! All that a desk holds.
 
 use crate::kit::alloc::{AllocError, Global};
@@ -22,19 +22,6 @@ fn put_person(form: Form, desk: &Desk<Global>, id: u64, out: &mut Text) -> Resul
     out.put(form.colon())?;
     put_standing(form, &Standing::on(desk, id), out)?;
     out.put(form.end())
-}
-
-/// Appends where each of these stands.
-fn put_people(
-    form: Form,
-    desk: &Desk<Global>,
-    ids: &[u64],
-    out: &mut Text,
-) -> Result<(), AllocError> {
-    for id in ids {
-        put_person(form, desk, *id, out)?;
-    }
-    Ok(())
 }
 
 /// Appends where a competitor stands who has not begun.
@@ -162,8 +149,10 @@ pub(crate) fn put_state(
     reached: &[Place],
     out: &mut Text,
 ) -> Result<(), AllocError> {
+    for id in begun {
+        put_person(form, desk, *id, out)?;
+    }
     let slots = desk.slots();
-    put_people(form, desk, begun, out)?;
     let Ok(competitors) = slots.pool().competitors(alloc) else {
         return Err(AllocError);
     };
