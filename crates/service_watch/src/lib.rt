@@ -1,7 +1,7 @@
 //! What a server shows those who watch it: a page of metrics in the text form of Prometheus, version 0.0.4, over HTTP/1.1.
 //!
 //! `put_page` writes the page of `Numbers`, `asked_by` says what a request asks for, and `put_answer` writes what is answered. `Scrapers` are those
-//! who ask, at most eight at once: none of their calls waits, each asks once, and each is closed after its answer or ten seconds.
+//! who ask, at most 32 at once: none of their calls waits, each asks once, and each is closed after its answer or three seconds.
 //!
 //! Promised is the text of the page (`put_page`), which has each number under its name, and the text of each answer (`put_answer`). What a request
 //! asks for, the page of several pools (`put_pages`), and what sockets carry, is only tested.

@@ -1,4 +1,4 @@
-// Erased by bindings/rust/erase from crates/service_loop/src/hosting.rt, sha256 dcafceeed2f227284ec203feaa623d61f4c19bd2ac5d346c9a238cb3fcdea3bc.
+// Erased by bindings/rust/erase from crates/service_loop/src/hosting.rt, sha256 8ac705b367152b963da16a5e79659965d4e4f9fb68dc5345663cfd92bc14d3e0.
 //! A server in one thread, by the readiness of its sockets.
 
 use crate::kit::alloc::{AllocError, Global};
@@ -259,6 +259,14 @@ fn enter_within<R: Net>(rt: &R) -> io::Result<Entrance> {
     })
 }
 
+// What goes to the persister before a turn, where the service prefetches its answers.
+fn new_batch(alloc: Global, kind: WorldKind, most: Option<usize>) -> Option<Batch<Global>> {
+    match most {
+        Some(most) => Some(Batch::new(alloc, kind, most)),
+        None => None,
+    }
+}
+
 // Whether an event is of those who watch, and noted then.
 fn note_watcher(watch: &mut Option<Watch>, event: &Event) -> bool {
     match watch {
@@ -308,29 +316,21 @@ impl Hosting {
         teller: Teller,
         most_prefetched: Option<usize>,
     ) -> Result<Hosting, HostFault<F>> {
-        let start = Instant::now(rt)?;
-        let Ok(events) = Events::with_capacity(alloc, EVENTS) else {
-            return Err(HostFault::Memory);
-        };
         let Entrance {
             poll,
             doors,
             watch,
             within,
         } = entrance;
-        let batch = match most_prefetched {
-            Some(most) => Some(Batch::new(alloc, options.kind, most)),
-            None => None,
-        };
         Ok(Hosting {
             alloc,
             options,
             poll,
-            events,
+            events: Events::with_capacity(alloc, EVENTS)?,
             doors,
             connections: ConnectionTable::new(alloc, options.clients)?,
             queue: TakeQueue::new(alloc),
-            start,
+            start: Instant::now(rt)?,
             second: 0,
             tick: 0,
             report: 0,
@@ -342,7 +342,7 @@ impl Hosting {
             said_lost: false,
             stop: false,
             last: LAST_ROUNDS,
-            batch,
+            batch: new_batch(alloc, options.kind, most_prefetched),
             ticked: false,
             sweeps: false,
             looks: false,
