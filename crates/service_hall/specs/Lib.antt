@@ -4,6 +4,7 @@ pub mod Replay
 pub mod HallState
 pub mod Halls
 pub mod Serving
+pub mod Raising
 pub mod Reading
 pub mod GoesOn
 pub mod Slots

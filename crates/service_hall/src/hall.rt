@@ -8,11 +8,13 @@ ghost use Rattle.text_worlds.specs.desk.Held.{slots_of};
 ghost use Rattle.text_worlds.specs.desk.Names.{IsOwnerReply};
 ghost use Rattle.model_asked.specs.Replies.{with_view};
 ghost use Rattle.service_hall.specs.Halls.{hall_of, desk_of, SatisfiesSpec, hall_refusal, HallMay};
+ghost use Rattle.service_hall.specs.Raising.{Raises, held_value, token_above};
 ghost use Rattle.service_hall.specs.Reading.{Serves};
 ghost use Rattle.service_hall.specs.Serving.{wants_room};
 ghost use Rattle.model_asked.specs.Requests.Request.{Take};
 
 use crate::log::Log;
+use crate::raising::token_reply;
 use crate::rules::{Rules, Way};
 use model_asked::{Config, Event, Exchange, Reply};
 use model_pool::slots::Slots;
@@ -176,14 +178,43 @@ impl Hall {
         Reply::of_value(self.held.desk.slots().get(id).copied())
     }
 
-    /// Takes an event by rules: it does what `read` does if the event is a `get` and reads are plain, and what `apply_short` does if it is another that is
-    /// admitted. Any other is refused with `OutOfRange`, and changes nothing.
+    /// Returns the next token of the number that an identity holds: one more than its slot has. It is `None` if the slot has the greatest value.
+    ///
+    /// Of an identity that holds no number it is 1.
+    pub fn next_token(&self, id: u64) -> Option<u64>
+        ensures { result ≡ token_above (held_value self.now id) }
+    {
+        self.held
+            .desk
+            .slots()
+            .get(id)
+            .copied()
+            .unwrap_or(0)
+            .checked_add(1)
+    }
+
+    /// Puts the next token into the slot of the number that an identity holds, and returns it (`next_token`).
+    ///
+    /// The history stores a `put` of that token. The reply is `Value` with the token, or the refusal of the `put`. It is `OutOfRange` if there is no next
+    /// token.
+    pub fn raise(&mut self, id: u64, view: &mut View) -> Reply<()>
+        ensures { Raises self.old id (with_view result view.new) self.new }
+    {
+        match self.next_token(id) {
+            Some(token) => token_reply(token, self.apply_short(Event::Put(id, token), view)),
+            None => Reply::Refused(Refusal::OutOfRange),
+        }
+    }
+
+    /// Takes an event by rules: it does what `read` does if the event is a `get` and reads are plain, what `raise` does if it is a `put` and tokens are
+    /// given, and what `apply_short` does if it is another that is admitted. Any other is refused with `OutOfRange`, and changes nothing.
     pub fn serve_short(&mut self, rules: Rules, event: Event, view: &mut View) -> Reply<()>
         ensures { Serves rules self.old (Take event) (with_view result view.new) self.new }
     {
         match rules.way_of(event) {
             Way::Applied => self.apply_short(event, view),
             Way::Read(id) => self.read(id),
+            Way::Raised(id) => self.raise(id, view),
             Way::Barred => Reply::Refused(Refusal::OutOfRange),
         }
     }

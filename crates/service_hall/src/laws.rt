@@ -1,6 +1,6 @@
 //! Laws of a hall, which run nothing.
 
-ghost use Rattle.std.specs.Prelude.{◌≡◌, ◌<◌, ◌++◌, [], ◌∷◌, ℕ, List, length, None, true, false};
+ghost use Rattle.std.specs.Prelude.{◌≡◌, ◌<◌, ◌≤◌, ◌++◌, [], ◌∷◌, ℕ, List, length, None, true, false};
 ghost use Rattle.model_asked.specs.Config.{gives_names};
 ghost use Rattle.model_asked.specs.Replies.{ShownReply, is_refusal};
 ghost use Rattle.model_asked.specs.declared.config.Config.{Config};
@@ -15,7 +15,8 @@ ghost use Rattle.text_player.specs.Turns.Turn.{Answered};
 ghost use Rattle.service_hall.specs.GoesOn.{GoesOn};
 ghost use Rattle.service_hall.specs.Halls.{SatisfiesSpec, HallMay, desk_of, hall_of, hall_refusal};
 ghost use Rattle.service_hall.specs.HallState.{HallState};
-ghost use Rattle.service_hall.specs.Reading.{IsRead, Serves, admitted, stored, way_of};
+ghost use Rattle.service_hall.specs.Raising.{value_at};
+ghost use Rattle.service_hall.specs.Reading.{GaveToken, IsRead, Serves, admitted, stored, way_of};
 ghost use Rattle.service_hall.specs.Serving.{HallServes, HasServed, accepted, wants_room, with_room};
 
 use crate::hall::Hall;
@@ -57,7 +58,8 @@ pub fn law_of_serving()
 /// A law of a hall as a service by rules (`Hall::serve_short`): its reads are logged or plain, and what the rules bar is refused.
 ///
 /// - `transcript`: the turns from a hall with no event are a transcript of its config, with all reads in it. Turns
-///   that are barred, or whose reply is `NoMemory` or `HistoryFull`, are left out.
+///   that are barred, or whose reply is `NoMemory` or `HistoryFull`, are left out. A `put` that gave a token stands there as
+///   the `put` of the token, and one that gave none is left out.
 /// - `without`: the turns without plain reads and what is barred are those of a hall that stores reads, and lead to the same hall.
 /// - `history`: the history gains the accepted events with their replies, without plain reads.
 /// - `replies`: each plain read has the reply of the desk that the turns before it led to.
@@ -75,4 +77,16 @@ pub fn law_of_reads()
         Runs (Serves rules) h (before ++ Answered x ∷ behind) u → (x.reply ≡ Reply.Refused Refusal.OutOfRange) × Runs (Serves rules) h (before ++ behind) u }
     ensures alike { (h u : HallState) (id : ℕ) (r : ShownReply) → SatisfiesSpec h → HallMay h (Event.Get id) r u → wants_room r ≡ false →
         r ≡ desk_reply (desk_of h) (Event.Get id) }
+{}
+
+/// A law of a hall that gives tokens (`Rules::tokens`): a client's `put` puts one more than the slot has, and is told it.
+///
+/// - `rising`: no slot ever has less than before.
+/// - `above`: a token is above all that its slot had since the first turn, and the slot has had no less since.
+pub fn law_of_raises()
+    ensures rising { (rules : Rules) → rules.tokens ≡ true → (h u : HallState) (ts : List Turn) (number : ℕ) → 1 ≤ number → SatisfiesSpec h →
+        Runs (Serves rules) h ts u → value_at h number ≤ value_at u number }
+    ensures above { (rules : Rules) → rules.tokens ≡ true → (h u : HallState) (before behind : List Turn) (x : Exchange) (id token : ℕ) → SatisfiesSpec h →
+        way_of rules x.event ≡ Way.Raised id → x.reply ≡ Reply.Value token → Runs (Serves rules) h (before ++ Answered x ∷ behind) u →
+        GaveToken rules h before id token behind u }
 {}

@@ -17,6 +17,9 @@
 //! turns (`law_of_reads`): without what is barred they are a transcript of the config with all reads in it, and without
 //! the reads too they are the turns of a hall that stores reads.
 //!
+//! If tokens are given (`Rules`), a client's `put` puts one more than the slot has, and is answered with that token. No slot
+//! ever has less than before, so each token is above all that its number had (`law_of_raises`).
+//!
 //! A reply that shows a view takes a kilobyte. `Hall::apply_short` returns a reply of few bytes instead, and stores the
 //! view in a buffer of the caller.
 //!
@@ -66,6 +69,7 @@ mod helpers;
 pub mod laws;
 pub mod log;
 mod plan;
+pub mod raising;
 pub mod reads;
 mod rebuilding;
 pub mod rules;
@@ -77,8 +81,9 @@ mod wide_plan;
 pub use compacting::{compacted, is_compacted};
 pub use compactor::Compactor;
 pub use hall::{Hall, MOST_EVENTS};
-pub use laws::{law_of_events, law_of_hall, law_of_reads, law_of_serving};
+pub use laws::{law_of_events, law_of_hall, law_of_raises, law_of_reads, law_of_serving};
 pub use log::Log;
+pub use raising::token_reply;
 pub use reads::Reads;
 pub use rules::{Rules, Way};
 pub use same::{is_same, is_same_event};

@@ -1,7 +1,7 @@
 //! What clients of a hall may ask for.
 
 ghost use Rattle.std.specs.Prelude.{◌≡◌};
-ghost use Rattle.service_hall.specs.Reading.{all_admitted, applied_if, way_of, way_of_read};
+ghost use Rattle.service_hall.specs.Reading.{all_admitted, applied_if, way_of, way_of_put, way_of_read};
 
 use crate::reads::Reads;
 use model_asked::Event;
@@ -15,6 +15,8 @@ pub struct Rules {
     pub widening: bool,
     /// Whether clients may begin and step, which uses up names.
     pub naming: bool,
+    /// Whether a `put` gives the next token in place of its own value.
+    pub tokens: bool,
 }
 
 /// How a hall takes an event of a client.
@@ -24,6 +26,8 @@ pub enum Way {
     Applied,
     /// As a read of this identity, which is stored nowhere.
     Read(u64),
+    /// As a `put` of the next token by this identity.
+    Raised(u64),
     /// Not at all: it is not admitted.
     Barred,
 }
@@ -45,6 +49,17 @@ fn way_of_read(reads: Reads, id: u64) -> Way
     }
 }
 
+// The way of a `put` by an identity.
+fn way_of_put(tokens: bool, id: u64) -> Way
+    ensures { result ≡ way_of_put tokens id }
+{
+    if tokens {
+        Way::Raised(id)
+    } else {
+        Way::Applied
+    }
+}
+
 impl Rules {
     /// Returns rules by which all is admitted.
     pub fn all(reads: Reads) -> Rules
@@ -54,6 +69,7 @@ impl Rules {
             reads,
             widening: true,
             naming: true,
+            tokens: false,
         }
     }
 
@@ -65,11 +81,8 @@ impl Rules {
             Event::Begin(_) | Event::Step(_) => applied_if(self.naming),
             Event::Widen(_) => applied_if(self.widening),
             Event::Get(id) => way_of_read(self.reads, id),
-            Event::Enter(_)
-            | Event::Probe(_)
-            | Event::Seek(_)
-            | Event::Leave(_)
-            | Event::Put(_, _) => Way::Applied,
+            Event::Put(id, _) => way_of_put(self.tokens, id),
+            Event::Enter(_) | Event::Probe(_) | Event::Seek(_) | Event::Leave(_) => Way::Applied,
         }
     }
 }

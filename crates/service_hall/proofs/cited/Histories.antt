@@ -16,10 +16,10 @@ use Rattle.service_hall.specs.Halls.{desk_of, SatisfiesSpec, full_unless, hall_r
 use Rattle.service_hall.specs.Replay.{replay, AreAccepted}
 
 -- accepted exchanges are calls
-record AreCalls (c : Config) (w : DeskValue) (before : List DeskCall) (xs : List Exchange) : Type 0 where
-  calls : List DeskCall
-  spelled : map exchange_of calls ≡ xs
-  after : IsAfterDesk c (replay w xs) (before ++ calls)
+pub record AreCalls (c : Config) (w : DeskValue) (before : List DeskCall) (xs : List Exchange) : Type 0 where
+  pub calls : List DeskCall
+  pub spelled : map exchange_of calls ≡ xs
+  pub after : IsAfterDesk c (replay w xs) (before ++ calls)
 
 calls_of : (c : Config) (w : DeskValue) (before : List DeskCall) (xs : List Exchange) → IsAfterDesk c w before → AreAccepted w xs → AreCalls c w before xs
 calls_of c w before [] a run = record { calls = []; spelled = refl; after = subst (λ (l : List DeskCall). IsAfterDesk c w l) (sym (append-nil before)) a }
@@ -33,7 +33,7 @@ calls_of c w before (x ∷ xs) a run =
     }
 
 module _ (h : HallState) (lawful : SatisfiesSpec h) where
-  all_calls : AreCalls h.config (fresh_desk h.config) [] h.history
+  pub all_calls : AreCalls h.config (fresh_desk h.config) [] h.history
   all_calls =
       let first = desk.fresh h.config (fresh_desk h.config) ((desk.fresh_is h.config (fresh_desk h.config)).1 (record { named = lawful.named; is = refl })) in
       calls_of h.config (fresh_desk h.config) [] h.history first lawful.accepted

@@ -1,6 +1,6 @@
 -- plain reads change nothing: a run with them is a run of the desk, and without them it is one of a hall that stores reads
-use Rattle.std.proofs.Common.{◌≡◌, ◌⊎◌, ◌++◌, ℕ, Bool, true, false, cond, inl, inr, List, [], ◌∷◌, Option, Some, None, refl, sym, ap, subst, ◌∙◌}
-use Rattle.service_hall.proofs.Common.{Config, Event, Exchange, DeskValue, OverGrid, OverTree, ShownReply, Runs, Turn, exchanges, Answered, Reported, Ended, Misread, desk_of, SatisfiesSpec, HallMay, HallState, hall_of}
+use Rattle.std.proofs.Common.{◌≡◌, ◌⊎◌, ◌++◌, ℕ, Bool, true, false, inl, inr, List, [], ◌∷◌, Option, Some, None, refl, sym, ap, subst, ◌∙◌}
+use Rattle.service_hall.proofs.Common.{Config, Event, Exchange, exchange, DeskValue, OverGrid, OverTree, ShownReply, Runs, Turn, exchanges, Answered, Reported, Ended, Misread, desk_of, SatisfiesSpec, HallMay, HallState, hall_of}
 use Rattle.model_asked.specs.Config.{gives_names}
 use Rattle.model_asked.specs.Requests.Request.{Take}
 use Rattle.model_asked.specs.declared.event.Event.TheVariants.{Begin, Step, Enter, Probe, Seek, Leave, Put, Get, Widen}
@@ -14,15 +14,16 @@ use Rattle.text_worlds.specs.desk.DeskRules.{fetched}
 use Rattle.text_worlds.specs.DeskWorld.{DeskWorldMay}
 use Rattle.text_worlds.specs.IsTranscript.{IsTranscript}
 use Rattle.service_hall.specs.Serving.{HallServes, accepted, wants_room, with_room}
-use Rattle.service_hall.specs.Reading.{IsRead, Serves, TakesBy, admitted, admitted_by, applied_if, stored, stored_by, way_of, way_of_read}
+use Rattle.service_hall.specs.Reading.{IsRead, Serves, TakesBy, admitted, admitted_by, applied_if, stored, stored_by, token_put, way_of, way_of_put, way_of_read}
 use Rattle.service_hall.specs.declared.rules.Rules.{Rules}
 use Rattle.service_hall.specs.declared.rules.Way.{Way}
-use Rattle.service_hall.specs.declared.rules.Way.TheVariants.{Applied, Read, Barred}
+use Rattle.service_hall.specs.declared.rules.Way.TheVariants.{Applied, Read, Raised, Barred}
 use Rattle.model_steps.specs.declared.refusal.Refusal.TheVariants as refusal
 use Rattle.model_asked.specs.declared.reply.Reply.TheVariants as reply
 use Rattle.service_hall.specs.declared.reads.Reads.{Reads}
 use Rattle.service_hall.specs.declared.reads.Reads.TheVariants.{Logged, Plain}
 use Rattle.service_hall.proofs.cited.Serves.{fresh_lawful, history, moves, transcript_of}
+use Rattle.service_hall.proofs.cited.RaisingLemmas.{by_put}
 
 -- a read: it changes nothing of a desk
 abbrev is_read : Event → Bool
@@ -64,6 +65,10 @@ if_reads : (b : Bool) (p : ℕ) → applied_if b ≡ Read p → ⊥
 if_reads true p h = cc
 if_reads false p h = cc
 
+put_reads : (tokens : Bool) (q p : ℕ) → way_of_put tokens q ≡ Read p → ⊥
+put_reads true q p h = cc
+put_reads false q p h = cc
+
 get_reads : (reads : Reads) (q p : ℕ) → way_of_read reads q ≡ Read p → Get q ≡ Get p
 get_reads Logged q p h = absurd (cc)
 get_reads Plain q p h = cc
@@ -76,7 +81,7 @@ read_is rules (Enter q) p h = absurd (cc)
 read_is rules (Probe q) p h = absurd (cc)
 read_is rules (Seek q) p h = absurd (cc)
 read_is rules (Leave q) p h = absurd (cc)
-read_is rules (Put q value) p h = absurd (cc)
+read_is rules (Put q value) p h = absurd (put_reads rules.tokens q p h)
 read_is rules (Get q) p h = get_reads rules.reads q p h
 read_is rules (Widen more) p h = absurd (if_reads rules.widening p h)
 
@@ -97,7 +102,7 @@ moved_read h e r u p lawful is said same =
 -- a run from a hall of which the first turn is not there, as its way has it
 abbrev RunsBy : Rules → Way → HallState → Exchange → HallState → List Turn → DeskValue → Type 0
 RunsBy rules way h x mid ts w = TakesBy way h x.event x.reply mid → (SatisfiesSpec mid → Runs DeskWorldMay (desk_of mid) (with_room (admitted rules ts)) w) →
-    Runs DeskWorldMay (desk_of h) (with_room (admitted_by way (Answered x) (admitted rules ts))) w
+    Runs DeskWorldMay (desk_of h) (with_room (admitted_by way x (admitted rules ts))) w
 
 module _ (rules : Rules) where
   -- one turn more that moves the desk, or for which room was wanting
@@ -116,6 +121,16 @@ module _ (rules : Rules) where
   one_run (Read p) h mid x ts w lawful is may rest =
       let one = moved_read h x.event x.reply mid p lawful (read_is rules x.event p is) may.0 may.1 in
       one_moved h mid x (admitted rules ts) w one (rest one.lawful)
+  one_run (Raised p) h mid x ts w lawful is may rest = elim (by_put h p x.reply mid may) [
+    | inl put ↦
+        let m = moves h (Put p put.token) lawful reply.Ok mid put.may in
+        let one : Moved h (Put p put.token) reply.Ok mid = record { lawful = m.lawful; desk = m.desk } in
+        subst (λ (r : ShownReply). Runs DeskWorldMay (desk_of h) (with_room (token_put p r (admitted rules ts))) w) (sym put.told)
+        (one_moved h mid (exchange (Put p put.token) reply.Ok) (admitted rules ts) w one (rest m.lawful))
+    | inr refused ↦
+        subst (λ (r : ShownReply). Runs DeskWorldMay (desk_of h) (with_room (token_put p r (admitted rules ts))) w) (sym refused.told)
+        (subst (λ (v : HallState). Runs DeskWorldMay (desk_of v) (with_room (admitted rules ts)) w) refused.same (rest (subst SatisfiesSpec (sym refused.same) lawful)))
+  ]
   one_run Barred h mid x ts w lawful is may rest =
       subst (λ (v : HallState). Runs DeskWorldMay (desk_of v) (with_room (admitted rules ts)) w) may.1 (rest (subst SatisfiesSpec (sym may.1) lawful))
 
@@ -134,9 +149,14 @@ module _ (rules : Rules) where
   read_transcript c named u ts run = transcript_of c named (desk_of u) (with_room (admitted rules ts)) (desk_runs (hall_of c []) u ts (fresh_lawful c named) run)
 
   -- one turn more before those of a hall that stores reads
-  one_stored : (way : Way) (h mid u : HallState) (x : Exchange) (ts : List Turn) → TakesBy way h x.event x.reply mid → Runs HallServes mid ts u → Runs HallServes h (stored_by way (Answered x) ts) u
+  one_stored : (way : Way) (h mid u : HallState) (x : Exchange) (ts : List Turn) → TakesBy way h x.event x.reply mid → Runs HallServes mid ts u → Runs HallServes h (stored_by way x ts) u
   one_stored Applied h mid u x ts may rest = (mid, may, rest)
   one_stored (Read p) h mid u x ts may rest = subst (λ (w : HallState). Runs HallServes w ts u) may.1 rest
+  one_stored (Raised p) h mid u x ts may rest = elim (by_put h p x.reply mid may) [
+    | inl put ↦ subst (λ (r : ShownReply). Runs HallServes h (token_put p r ts) u) (sym put.told) (mid, put.may, rest)
+    | inr refused ↦
+        subst (λ (r : ShownReply). Runs HallServes h (token_put p r ts) u) (sym refused.told) (subst (λ (w : HallState). Runs HallServes w ts u) refused.same rest)
+  ]
   one_stored Barred h mid u x ts may rest = subst (λ (w : HallState). Runs HallServes w ts u) may.1 rest
 
   -- a run without its plain reads and what is barred is one of a hall that stores reads

@@ -1,4 +1,4 @@
-use Rattle.std.proofs.Common.{◌≡◌, ℕ}
+use Rattle.std.proofs.Common.{◌≡◌}
 use Rattle.model_pool.specs.Sought.{sought_on}
 use Rattle.model_pool.specs.declared.stay.Stay.TheVariants.{Seeking}
 use Rattle.service_hall.specs.Copies.{bits_in}
