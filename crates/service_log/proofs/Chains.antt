@@ -7,7 +7,10 @@ use Rattle.service_log.specs.declared.serve_fault.Cause.{Cause}
 use Rattle.service_log.specs.declared.serve_fault.Cause.TheVariants.{Memory, Damaged, Poisoned, Full, Busy, Store}
 use Rattle.service_log.specs.declared.serve_fault.ServeFault.{ServeFault}
 use Rattle.service_log.specs.declared.serve_fault.ServeFault.TheVariants.{TooLong, Unknown}
-use Rattle.service_log.specs.Places.{Adds, Keeps, Same}
+use Rattle.service_log.specs.declared.store.Append.{Append}
+use Rattle.service_log.specs.declared.store.Append.TheVariants.{At}
+use Rattle.service_log.specs.Appends.{HasAppended}
+use Rattle.service_log.specs.Places.{Adds, AddsFrom, Keeps, Lands, Same}
 use Rattle.service_log.specs.declared.store.TheConstants.{MOST_PLACES}
 use Rattle.service_log.specs.Replicas.{AddsOnce, EndsBy, FaultLeaves, GoesOn, IsAnswered, IsApplied, IsDueFrom, IsReplicaFrom, Leads, OneMore, StandsFrom}
 use Rattle.service_log.specs.ReplicaState.{ReplicaState}
@@ -33,6 +36,33 @@ adds_once first between last at batch same adds = record {
 
 pub adds_none : (first last : ℕ → List ℕ → Type 0) (at : ℕ) (batch : List ℕ) → Same first last → Adds first at batch last
 adds_none first last at batch same = record { keeps = same.keeps; only = λ place entry h. inl (same.only place entry h) }
+
+-- nothing was written, and so nothing at a place from one on
+pub adds_from_none : (first last : ℕ → List ℕ → Type 0) (place : ℕ) (batch : List ℕ) → Same first last → AddsFrom first place batch last
+adds_from_none first last place batch same = record { at = place; from = omega arith; adds = adds_none first last place batch same }
+
+-- what was written at most once was so before calls that wrote nothing
+pub adds_from_then : (first between last : ℕ → List ℕ → Type 0) (place : ℕ) (batch : List ℕ) → AddsFrom first place batch between → Same between last → AddsFrom first place batch last
+adds_from_then first between last place batch adds same = record {
+  at = adds.at;
+  from = adds.from;
+  adds = record { keeps = λ at entry h. same.keeps at entry (adds.adds.keeps at entry h); only = λ at entry h. adds.adds.only at entry (same.only at entry h) };
+}
+
+-- what came to stand at a place
+pub landed : (before after : ℕ → List ℕ → Type 0) (lacked : ℕ → Type 0) (place : ℕ) (entry : List ℕ) (did : Append) (at : ℕ) → did ≡ At at → HasAppended before after lacked place entry did →
+    Lands before after lacked place entry at
+landed before after lacked place entry did at is so = let done = subst (λ (a : Append). HasAppended before after lacked place entry a) is so in done.0
+
+-- and behind such calls
+pub once_later : (first between last : ℕ → List ℕ → Type 0) (batch : List ℕ) → Same first between → AddsOnce between batch last → AddsOnce first batch last
+once_later first between last batch same once = adds_once first between last once.at batch same once.adds
+
+pub once_from : (first last : ℕ → List ℕ → Type 0) (place : ℕ) (batch : List ℕ) → AddsFrom first place batch last → AddsOnce first batch last
+once_from first last place batch adds = record { at = adds.at; adds = adds.adds }
+
+pub once_none : (first last : ℕ → List ℕ → Type 0) (batch : List ℕ) → Same first last → AddsOnce first batch last
+once_none first last batch same = record { at = 0; adds = adds_none first last 0 batch same }
 
 -- nothing was written, and so a batch at most once
 pub none_once : (stands : ℕ → List ℕ → Type 0) (batch : List ℕ) → AddsOnce stands batch stands
@@ -149,6 +179,50 @@ module _ {M R : Type 0} (applies : M → List ℕ → R → M → Type 0) where
   fault_ends old mid new Full well is = (subst (λ (r : ReplicaState M). MOST_PLACES ≤ r.place) (sym is.1) is.0, ap (λ (r : ReplicaState M). r.poisoned) is.1 ∙ well)
   fault_ends old mid new Busy well is = absurd is
 
+  -- whether it was behind says nothing of what was applied
+  pub was_behind_goes_on : (stands : ℕ → List ℕ → Type 0) (inside old new : ReplicaState M) (behind : Bool) → inside ≡ old → GoesOn applies stands (record inside { behind = behind }) new → GoesOn applies stands old new
+  was_behind_goes_on stands inside old new behind is on =
+      subst (λ (r : ReplicaState M). GoesOn applies stands r new) is (record { more = on.more; led = on.led; stood = on.stood; count = on.count; was_well = on.was_well })
+
+  -- behind steps after which it was well
+  pub ends_later : (old mid new : ReplicaState M) (cause : Cause) → mid.poisoned ≡ false → EndsBy mid cause new → EndsBy old cause new
+  ends_later old mid new (Store fault) well is = is
+  ends_later old mid new Memory well is = is
+  ends_later old mid new Damaged well is = is
+  ends_later old mid new Poisoned well is = absurd (let bad : true ≡ false = sym is.0 ∙ well in cc)
+  ends_later old mid new Full well is = is
+  ends_later old mid new Busy well is = is
+
+  -- answered behind what was applied
+  pub answered_later : (first last : ℕ → List ℕ → Type 0) → Keeps first last → (a b c : ReplicaState M) (batch : List ℕ) (replies : R) → GoesOn applies first a b → IsAnswered applies last b batch c replies →
+      IsAnswered applies last a batch c replies
+  answered_later first last keeps a b c batch replies one so =
+      let all : StandsFrom last a.place (one.more ++ (so.others ++ batch ∷ [])) =
+      stands_append last a.place one.more (so.others ++ batch ∷ []) (stands_still_from first last keeps a.place one.more one.stood) (subst (λ (k : ℕ). StandsFrom last k (so.others ++ batch ∷ [])) one.count so.stood) in
+      record {
+        others = one.more ++ so.others;
+        before = so.before;
+        led = leads_append a.machine b.machine so.before one.more so.others one.led so.led;
+        reported = so.reported;
+        stood = subst (StandsFrom last a.place) (sym (append_assoc one.more so.others (batch ∷ []))) all;
+        count = (let n = length-append one.more so.others in let p = one.count in let q = so.count in omega (arith, n, p, q));
+        was_well = one.was_well;
+        is_well = so.is_well;
+      }
+
+  -- what was applied at its own place was answered
+  pub answered_there : (stands : ℕ → List ℕ → Type 0) (old new : ReplicaState M) (batch : List ℕ) (replies : R) → IsApplied applies stands old batch replies new → IsAnswered applies stands old batch new replies
+  answered_there stands old new batch replies h = answered stands stands (λ place entry h. h) old old new batch replies (none_goes_on stands old h.was_well) h
+
+  pub answered_goes_on : (stands : ℕ → List ℕ → Type 0) (old new : ReplicaState M) (batch : List ℕ) (replies : R) → IsAnswered applies stands old batch new replies → GoesOn applies stands old new
+  answered_goes_on stands old new batch replies so = record {
+    more = so.others ++ batch ∷ [];
+    led = leads_append old.machine so.before new.machine so.others (batch ∷ []) so.led (replies, new.machine, so.reported, refl);
+    stood = so.stood;
+    count = (let n = length-append so.others (batch ∷ []) in let p = so.count in omega (arith, n, p));
+    was_well = so.was_well;
+  }
+
   pub more_goes_on : (stands : ℕ → List ℕ → Type 0) (old new : ReplicaState M) → OneMore applies stands old new → GoesOn applies stands old new
   more_goes_on stands old new h = one_goes_on stands old h.entry h.said new h.more
 
@@ -163,7 +237,7 @@ module _ {M R : Type 0} (applies : M → List ℕ → R → M → Type 0) where
 
   -- and is not poisoned, but by a fault
   pub step_is_well : (stands : ℕ → List ℕ → Type 0) (old : ReplicaState M) (batch : List ℕ) (replies : R) (new : ReplicaState M) (step : Step) (result : Result Step Cause) → result ≡ Ok step →
-      (result ≡ Ok Answered → IsApplied applies stands old batch replies new) → (result ≡ Ok Passed → OneMore applies stands old new) →
+      (result ≡ Ok Answered → IsAnswered applies stands old batch new replies) → (result ≡ Ok Passed → OneMore applies stands old new) →
       (result ≡ Ok Nothing → (new ≡ record old { behind = not old.behind }) × (old.poisoned ≡ false)) → new.poisoned ≡ false
   step_is_well stands old batch replies new Answered result is answered passed nothing = (answered is).is_well
   step_is_well stands old batch replies new Passed result is answered passed nothing = (passed is).more.is_well

@@ -1,6 +1,6 @@
 -- What stands at the places of a log that grows.
-use Rattle.std.proofs.Common.{◌≡◌, ◌<◌, ◌≤◌, ℕ, zero, suc, List, [], ◌∷◌, ◌++◌, length, ◌⊎◌, inl, inr, refl, arith}
-use Rattle.service_log.specs.Places.{Adds, IsDecidedBelow, IsTaken, stands_in}
+use Rattle.std.proofs.Common.{◌≡◌, ◌<◌, ◌≤◌, ℕ, zero, suc, List, [], ◌∷◌, ◌++◌, length, ◌⊎◌, inl, inr, refl, arith, sym, subst}
+use Rattle.service_log.specs.Places.{Adds, AddsFrom, IsDecidedBelow, IsTaken, Lands, stands_in}
 
 -- the entry that was added stands behind all others
 pub stands_last : (log : List (List ℕ)) (entry : List ℕ) → stands_in (log ++ entry ∷ []) (length log) entry
@@ -35,3 +35,22 @@ taken_below (first ∷ log) (suc place) within = taken_below log place (omega (a
 
 pub decided_below : (log : List (List ℕ)) (below : ℕ) → below ≤ length log → IsDecidedBelow (stands_in log) below
 decided_below log below within = λ place less. taken_below log place (omega (arith, within, less))
+
+-- an entry that was added came to stand at the first place that was empty
+lands_last : (log : List (List ℕ)) (entry : List ℕ) (place : ℕ) → place ≤ length log → Lands (stands_in log) (stands_in (log ++ entry ∷ [])) (λ at. length log ≤ at) place entry (length log)
+lands_last log entry place within = record {
+  from = within;
+  free = omega arith;
+  passed = λ between after before. let taken = taken_below log between before in (taken.0, stands_still log entry between taken.0 taken.1);
+  stood = stands_last log entry;
+  adds = adds_last log entry;
+}
+
+pub lands_so : (log new : List (List ℕ)) (entry : List ℕ) (place next : ℕ) → next ≡ length log → new ≡ log ++ entry ∷ [] → place ≤ next →
+    Lands (stands_in log) (stands_in new) (λ at. length log ≤ at) place entry next
+lands_so log new entry place next many is within =
+    subst (λ (n : ℕ). Lands (stands_in log) (stands_in new) (λ at. length log ≤ at) place entry n) (sym many)
+    (subst (λ (l : List (List ℕ)). Lands (stands_in log) (stands_in l) (λ at. length log ≤ at) place entry (length log)) (sym is) (lands_last log entry place (omega (arith, many, within))))
+
+pub lands_adds : (before after : ℕ → List ℕ → Type 0) (lacked : ℕ → Type 0) (place : ℕ) (entry : List ℕ) (at : ℕ) → Lands before after lacked place entry at → AddsFrom before place entry after
+lands_adds before after lacked place entry at lands = record { at = at; from = lands.from; adds = lands.adds }

@@ -1,11 +1,12 @@
 -- How far a replica gets by steps, of which each is passed by an entry or told why none was applied.
-use Rattle.std.proofs.Common.{◌≡◌, ◌≤◌, Bool, not, true, false, ℕ, ◌+◌, ◌*◌, List, ◌⊎◌, inl, inr, refl, sym, subst, arith, Result, Ok}
+use Rattle.std.proofs.Common.{◌≡◌, ◌<◌, ◌≤◌, Bool, not, true, false, ℕ, ◌+◌, ◌-◌, ◌*◌, List, ◌⊎◌, inl, inr, refl, sym, subst, arith, Result, Ok}
 use mathlib.Core.Bool.{false≢true}
 use Rattle.service_log.specs.declared.replica.Step.{Step}
 use Rattle.service_log.specs.declared.replica.Step.TheVariants.{Nothing, Answered, Passed}
 use Rattle.service_log.specs.declared.serve_fault.Cause.{Cause}
+use Rattle.service_log.specs.declared.store.TheConstants.{MOST_PLACES}
 use Rattle.service_log.specs.Places.{Contradicts, IsTaken, Same}
-use Rattle.service_log.specs.Replicas.{IsApplied, OneMore}
+use Rattle.service_log.specs.Replicas.{IsAnswered, OneMore}
 use Rattle.service_log.specs.ReplicaState.{ReplicaState}
 
 -- of so many steps from a place on at least a third applied an entry, but for two: an offer that finds its place taken, and a read that
@@ -19,8 +20,8 @@ module _ {S M : Type 0} (stands : S → ℕ → List ℕ → Type 0) (lacks : S 
   abbrev pub IsPaced : S → ℕ → ℕ → ReplicaState M → Type 0
   IsPaced s from steps r = Contradicts stands lacks ⊎ Pace (stands s) from steps r
 
-  -- one more was applied
-  paced_on : (s t : S) (from steps : ℕ) (old new : ReplicaState M) → new.place ≡ old.place + 1 → IsPaced s from steps old → IsPaced t from (steps + 1) new
+  -- at least one more was applied
+  paced_on : (s t : S) (from steps : ℕ) (old new : ReplicaState M) → old.place + 1 ≤ new.place → IsPaced s from steps old → IsPaced t from (steps + 1) new
   paced_on s t from steps old new one (inl bad) = inl bad
   paced_on s t from steps old new one (inr pace) = let most = pace.most in
       inr (record { most = omega (arith, most, one); offers = λ not_behind. omega (arith, most, one); reads = λ behind. inl (omega (arith, most, one)) })
@@ -48,12 +49,12 @@ module _ {S M : Type 0} (stands : S → ℕ → List ℕ → Type 0) (lacks : S 
   -- each step keeps the pace
   pub paced_step : {R : Type 0} (applies : M → List ℕ → R → M → Type 0) (s t : S) (from steps : ℕ) (old : ReplicaState M) (batch : List ℕ) (replies : R) (new : ReplicaState M) (step : Step) (result : Result Step Cause) →
       result ≡ Ok step → Same (stands s) (stands t) →
-      (result ≡ Ok Answered → IsApplied applies (stands t) old batch replies new) → (result ≡ Ok Passed → OneMore applies (stands t) old new) →
+      (result ≡ Ok Answered → IsAnswered applies (stands t) old batch new replies) → (result ≡ Ok Passed → OneMore applies (stands t) old new) →
       (result ≡ Ok Nothing → (new ≡ record old { behind = not old.behind }) × (old.poisoned ≡ false)) →
       (result ≡ Ok Nothing → old.behind ≡ true → lacks t old.place) → (result ≡ Ok Nothing → old.behind ≡ false → IsTaken (stands t) old.place) →
       IsPaced s from steps old → IsPaced t from (steps + 1) new
-  paced_step applies s t from steps old batch replies new Answered result is same answered passed nothing missed stood = paced_on s t from steps old new (answered is).count
-  paced_step applies s t from steps old batch replies new Passed result is same answered passed nothing missed stood = paced_on s t from steps old new (passed is).more.count
+  paced_step applies s t from steps old batch replies new Answered result is same answered passed nothing missed stood = paced_on s t from steps old new (let n = (answered is).count in omega (arith, n))
+  paced_step applies s t from steps old batch replies new Passed result is same answered passed nothing missed stood = paced_on s t from steps old new (let n = (passed is).more.count in omega (arith, n))
   paced_step applies s t from steps old batch replies new Nothing result is same answered passed nothing missed stood =
       paced_none s t from steps old new old.behind refl (nothing is).0 same (missed is) (stood is)
 
@@ -61,3 +62,13 @@ module _ {S M : Type 0} (stands : S → ℕ → List ℕ → Type 0) (lacks : S 
   pub got_on : (s : S) (from steps : ℕ) (r : ReplicaState M) → 1000000 ≤ steps → IsPaced s from steps r → (from + 333333 ≤ r.place) ⊎ Contradicts stands lacks
   got_on s from steps r all (inl bad) = inr bad
   got_on s from steps r all (inr pace) = let most = pace.most in inl (omega (arith, most, all))
+
+module _ {S : Type 0} (stands : S → ℕ → List ℕ → Type 0) (lacks : S → ℕ → Type 0) where
+  -- a place is lacked that was said to be taken
+  pub not_reached : (s t : S) (from was at passed place : ℕ) → was ≡ from → Same (stands s) (stands t) → at < MOST_PLACES → place ≡ from + passed → place < at →
+      (passed < at - was → (MOST_PLACES ≤ place) ⊎ lacks t place) → ((between : ℕ) → from ≤ between → between < at → IsTaken (stands s) between) → Contradicts stands lacks
+  not_reached s t from was at passed place is same room count short stopped taken =
+      elim (stopped (omega (arith, is, count, short))) [
+        | inl full ↦ absurd (omega (arith, full, short, room))
+        | inr lacked ↦ let stood = taken place (omega (arith, count)) short in (t, place, (stood.0, same.keeps place stood.0 stood.1), lacked)
+      ]

@@ -1,3 +1,4 @@
+pub mod Appends
 pub mod Behind
 pub mod KeyDigits
 pub mod Lasts

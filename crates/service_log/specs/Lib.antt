@@ -1,3 +1,4 @@
+pub mod Appends
 pub mod Causes
 pub mod Groups
 pub mod GroupState

@@ -13,6 +13,10 @@
 //! read and write. After a fault the store drops the connection and asks the next member the same, each member at most
 //! twice. A put whose answer was lost then finds the place taken, by its own entry.
 //!
+//! An append puts a value at the first of four keys that was never created, by one transaction in another, and gets what is
+//! there (`append_text`, `read_append`). It compares at which revision one key was changed last, the fence. After a fault
+//! the store changes the fence (`fence_text`) before it offers anything, so no append of before is written later.
+//!
 //! A trim notes the place below which entries are given up, and deletes them by one transaction after another
 //! (`trim_text`). The first of them writes the note.
 //!

@@ -51,5 +51,5 @@ pub use machine::{ApplyFault, Machine};
 pub use memory_store::MemoryStore;
 pub use replica::{MOST_BATCH, MOST_STEPS, Replica, Step};
 pub use serve_fault::{Cause, ServeFault};
-pub use store::{MOST_PLACES, Put, Store};
+pub use store::{Append, MOST_PLACES, Put, Store};
 pub use store_fault::StoreFault;

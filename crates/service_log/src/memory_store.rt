@@ -6,7 +6,7 @@ ghost use Rattle.service_log.specs.Causes.{FailsInMemory};
 ghost use Rattle.service_log.specs.declared.store.Put.TheVariants.{Written, Taken};
 ghost use Rattle.service_log.specs.declared.store_fault.StoreFault.TheVariants.{Memory, Gap};
 
-use crate::store::{Put, Store};
+use crate::store::{Append, MOST_PLACES, Put, Store};
 use crate::store_fault::StoreFault;
 use std::alloc::{AllocError, Global};
 use std::marker::Model;
@@ -50,7 +50,7 @@ impl MemoryStore {
     }
 
     // Writes an entry at the first place that is empty.
-    fn append(&mut self, entry: &[u8]) -> Result<(), AllocError>
+    fn push(&mut self, entry: &[u8]) -> Result<(), AllocError>
         ensures written { OnOk result (self.new ≡ self.old ++ entry.now ∷ []) }
         ensures unchanged_on_error { OnErr result (self.new ≡ self.old) }
     {
@@ -89,10 +89,22 @@ impl Store for MemoryStore {
         if next < place {
             return Err(StoreFault::Gap);
         }
-        match self.append(entry) {
+        match self.push(entry) {
             Ok(()) => Ok(Put::Written),
             Err(_) => Err(StoreFault::Memory),
         }
+    }
+
+    #[tactic(auto, using(crate::proofs::Chains::adds_from_none, crate::proofs::Chains::same_self))]
+    fn append(&mut self, place: u64, entry: &[u8]) -> Result<Append, StoreFault> {
+        let next = self.entries.len() as u64;
+        if place > next {
+            return Err(StoreFault::Gap);
+        }
+        if next >= MOST_PLACES || self.push(entry).is_err() {
+            return Err(StoreFault::Memory);
+        }
+        Ok(Append::At(next))
     }
 
     fn get(&mut self, place: u64, entry: &mut Vec<u8>) -> Result<bool, StoreFault> {

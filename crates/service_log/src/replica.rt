@@ -1,7 +1,7 @@
 //! A machine that follows a log.
 
 ghost use Rattle.std.specs.Prelude.{◌≡◌, ◌≢◌, ◌<◌, ◌≤◌, ℕ, length, true, false, Ok, Err, OnOk, OnErr, IfOk, IfErr, ◌+◌, ◌⊎◌, not};
-ghost use Rattle.service_log.specs.Places.{Adds, Contradicts, IsTaken, Same};
+ghost use Rattle.service_log.specs.Places.{Adds, AddsFrom, Contradicts, IsTaken, Same};
 ghost use Rattle.service_log.specs.Replicas.{AddsOnce, EndsBy, FaultLeaves, GoesOn, IsAnswered, IsApplied, IsReplicaFrom, OneMore, ServeLeaves};
 ghost use Rattle.service_log.specs.Causes.{MayCause, MayFail};
 ghost use Rattle.service_log.specs.declared.store.TheConstants.{MOST_PLACES};
@@ -11,9 +11,9 @@ ghost use Rattle.service_log.specs.declared.serve_fault.Cause.TheVariants as cau
 ghost use Rattle.service_log.specs.declared.serve_fault.ServeFault.TheVariants.{TooLong, Unknown};
 ghost use Rattle.service_log.specs.declared.store_fault.StoreFault.{StoreFault};
 
-use crate::machine::Machine;
+use crate::machine::{ApplyFault, Machine};
 use crate::serve_fault::{Cause, ServeFault};
-use crate::store::{MOST_PLACES, Put, Store};
+use crate::store::{Append, MOST_PLACES, Put, Store};
 use std::alloc::Global;
 use std::marker::Model;
 
@@ -191,6 +191,7 @@ impl<M: Machine> Replica<M> {
         ensures passed { result ≡ Ok true → OneMore M.applies (S.stands store.new) self.old self.new }
         ensures nothing { result ≡ Ok false → self.new ≡ record self.old { behind = self.new.behind } }
         ensures missed { result ≡ Ok false → (MOST_PLACES ≤ self.old.place) ⊎ S.lacks store.new self.old.place }
+        ensures ready { result ≡ Ok false → (MOST_PLACES ≤ self.old.place) ⊎ (self.new.behind ≡ false) }
         ensures silent { M.silent replies.new }
         ensures fault { IfErr result (λ cause. FaultLeaves self.old cause self.new) }
         ensures cause { IfErr result (MayCause S.fails) }
@@ -281,7 +282,150 @@ impl<M: Machine> Replica<M> {
         result
     }
 
-    /// Serves a batch: puts it into the log, applies all entries before it and then the batch, and returns its replies.
+    // Applies the entries at the places before `at`, and drops their replies. `Busy` is a store that lacks a place which it
+    // said was taken.
+    fn reach<S: Store>(
+        &mut self,
+        store: &mut S,
+        at: u64,
+        replies: &mut M::Replies,
+    ) -> Result<(), Cause>
+        requires from { self.old.place ≤ at }
+        requires within { at < MOST_PLACES }
+        requires well { self.old.poisoned ≡ false }
+        requires taken { (between : ℕ) → self.old.place ≤ between → between < at → IsTaken (S.stands store.old) between }
+        ensures there { OnOk result (self.new.place ≡ at) }
+        ensures well { OnOk result (self.new.poisoned ≡ false) }
+        ensures lost { (fault : StoreFault) → result ≡ Err (cause.Store fault) → self.new.behind ≡ true }
+        ensures fault { IfErr result (λ cause. EndsBy self.old cause self.new) }
+        ensures cause { IfErr result (MayCause S.fails) }
+        ensures busy { result ≡ Err Busy → Contradicts S.stands S.lacks }
+        ensures goes_on { self.new.poisoned ≡ false → GoesOn M.applies (S.stands store.new) self.old self.new }
+        ensures same { Same (S.stands store.old) (S.stands store.new) }
+    {
+        let missing = at - self.place;
+        let passed = self.catch_up(store, missing, replies);
+        self.behind = true;
+        passed?;
+        if self.place < at {
+            return Err(Cause::Busy);
+        }
+        Ok(())
+    }
+
+    // Applies a batch that this replica wrote at its place.
+    fn apply_own(&mut self, own: &[u8], replies: &mut M::Replies) -> Result<(), ApplyFault>
+        requires room { self.old.place < MOST_PLACES }
+        requires well { self.old.poisoned ≡ false }
+        ensures applied { OnOk result (M.applies self.old.machine own.now replies.new self.new.machine) }
+        ensures next { OnOk result ((self.new.place ≡ self.old.place + 1) × (self.new.poisoned ≡ false)) }
+        ensures poisoned { OnErr result (self.new.poisoned ≡ true) }
+    {
+        if let Err(fault) = self.machine.apply(own, replies) {
+            self.poisoned = true;
+            return Err(fault);
+        }
+        self.place += 1;
+        self.behind = false;
+        Ok(())
+    }
+
+    // Appends a batch to the log, applies the entries before it and then the batch, if this call wrote it.
+    fn write<S: Store>(
+        &mut self,
+        store: &mut S,
+        batch: &[u8],
+        replies: &mut M::Replies,
+    ) -> Result<Step, Cause>
+        requires well { self.old.poisoned ≡ false }
+        ensures answered { result ≡ Ok Answered → IsAnswered M.applies (S.stands store.new) self.old batch.now self.new replies.new }
+        ensures passed { result ≢ Ok Passed }
+        ensures nothing { result ≡ Ok Nothing → (self.new ≡ record self.old { behind = true }) × Same (S.stands store.old) (S.stands store.new) }
+        ensures stood { result ≡ Ok Nothing → IsTaken (S.stands store.new) self.old.place }
+        ensures lost { (fault : StoreFault) → result ≡ Err (cause.Store fault) → self.new.behind ≡ true }
+        ensures fault { IfErr result (λ cause. EndsBy self.old cause self.new) }
+        ensures cause { IfErr result (MayCause S.fails) }
+        ensures busy { result ≡ Err Busy → Contradicts S.stands S.lacks }
+        ensures goes_on { self.new.poisoned ≡ false → GoesOn M.applies (S.stands store.new) self.old self.new }
+        ensures adds { AddsFrom (S.stands store.old) self.old.place batch.now (S.stands store.new) }
+    {
+        self.behind = true;
+        let at = match store.append(self.place, batch) {
+            Ok(Append::At(at)) => at,
+            Ok(Append::Nowhere) => return Ok(Step::Nothing),
+            Err(fault) => return Err(Cause::Store(fault)),
+        };
+        self.reach(store, at, replies)?;
+        if let Err(fault) = self.apply_own(batch, replies) {
+            return Err(Cause::of_apply(fault));
+        }
+        Ok(Step::Answered)
+    }
+
+    // Makes one step for a batch that may come to stand behind other entries, and leaves any replies.
+    fn progress<S: Store>(
+        &mut self,
+        store: &mut S,
+        batch: &[u8],
+        replies: &mut M::Replies,
+    ) -> Result<Step, Cause>
+        requires well { self.old.poisoned ≡ false }
+        ensures answered { result ≡ Ok Answered → IsAnswered M.applies (S.stands store.new) self.old batch.now self.new replies.new }
+        ensures passed { result ≡ Ok Passed → OneMore M.applies (S.stands store.new) self.old self.new }
+        ensures nothing { result ≡ Ok Nothing → (self.new ≡ record self.old { behind = not self.old.behind }) × (self.old.poisoned ≡ false) }
+        ensures missed { result ≡ Ok Nothing → self.old.behind ≡ true → S.lacks store.new self.old.place }
+        ensures stood { result ≡ Ok Nothing → self.old.behind ≡ false → IsTaken (S.stands store.new) self.old.place }
+        ensures lost { (fault : StoreFault) → result ≡ Err (cause.Store fault) → self.new.behind ≡ true }
+        ensures reads { self.old.behind ≡ true → Same (S.stands store.old) (S.stands store.new) }
+        ensures unwritten { IfOk result (λ step. step ≢ Answered → Same (S.stands store.old) (S.stands store.new)) }
+        ensures fault { IfErr result (λ cause. EndsBy self.old cause self.new) }
+        ensures cause { IfErr result (MayCause S.fails) }
+        ensures busy { result ≡ Err Busy → Contradicts S.stands S.lacks }
+        ensures goes_on { self.new.poisoned ≡ false → GoesOn M.applies (S.stands store.new) self.old self.new }
+        ensures once { AddsOnce (S.stands store.old) batch.now (S.stands store.new) }
+    {
+        if self.place >= MOST_PLACES {
+            return Err(Cause::Full);
+        }
+        let behind = self.behind;
+        if behind {
+            self.follow(store, batch, replies)
+        } else {
+            self.write(store, batch, replies)
+        }
+    }
+
+    // Makes one step for a batch as `progress` does. The replies are none unless the result is `Answered`.
+    fn stride<S: Store>(
+        &mut self,
+        store: &mut S,
+        batch: &[u8],
+        replies: &mut M::Replies,
+    ) -> Result<Step, Cause>
+        requires well { self.old.poisoned ≡ false }
+        ensures answered { result ≡ Ok Answered → IsAnswered M.applies (S.stands store.new) self.old batch.now self.new replies.new }
+        ensures unanswered { result ≢ Ok Answered → M.silent replies.new }
+        ensures passed { result ≡ Ok Passed → OneMore M.applies (S.stands store.new) self.old self.new }
+        ensures nothing { result ≡ Ok Nothing → (self.new ≡ record self.old { behind = not self.old.behind }) × (self.old.poisoned ≡ false) }
+        ensures missed { result ≡ Ok Nothing → self.old.behind ≡ true → S.lacks store.new self.old.place }
+        ensures stood { result ≡ Ok Nothing → self.old.behind ≡ false → IsTaken (S.stands store.new) self.old.place }
+        ensures lost { (fault : StoreFault) → result ≡ Err (cause.Store fault) → self.new.behind ≡ true }
+        ensures unwritten { IfOk result (λ step. step ≢ Answered → Same (S.stands store.old) (S.stands store.new)) }
+        ensures fault { IfErr result (λ cause. EndsBy self.old cause self.new) }
+        ensures cause { IfErr result (MayCause S.fails) }
+        ensures busy { result ≡ Err Busy → Contradicts S.stands S.lacks }
+        ensures goes_on { self.new.poisoned ≡ false → GoesOn M.applies (S.stands store.new) self.old self.new }
+        ensures once { AddsOnce (S.stands store.old) batch.now (S.stands store.new) }
+    {
+        let result = self.progress(store, batch, replies);
+        let is_answered = result == Ok(Step::Answered);
+        if !is_answered {
+            M::forget(replies);
+        }
+        result
+    }
+
+    /// Serves a batch: appends it to the log, applies all entries before it and then the batch, and returns its replies.
     ///
     /// This call writes the batch at most once, also if it fails. After an error the replies are none.
     ///
@@ -307,6 +451,7 @@ impl<M: Machine> Replica<M> {
         ensures fault { IfErr result (MayFail S.fails) }
         ensures busy { result ≡ Err (Unknown Busy) → (self.old.place + 333333 ≤ self.new.place) ⊎ Contradicts S.stands S.lacks }
         ensures leaves { IfErr result (λ fault. ServeLeaves self.old fault self.new) }
+        ensures lost { (fault : StoreFault) → result ≡ Err (Unknown (cause.Store fault)) → self.new.behind ≡ true }
         ensures poisoned { self.old.poisoned ≡ true → length batch.now ≤ 65536 →
             (result ≡ Err (Unknown Poisoned)) × (self.new ≡ self.old) × (store.new ≡ store.old) }
         ensures goes_on { self.new.poisoned ≡ false → GoesOn M.applies (S.stands store.new) self.old self.new }
@@ -323,7 +468,7 @@ impl<M: Machine> Replica<M> {
             return Err(ServeFault::Unknown(Cause::Poisoned));
         }
         for _ in 0..MOST_STEPS {
-            match self.step(store, batch, replies) {
+            match self.stride(store, batch, replies) {
                 Ok(Step::Answered) => return Ok(()),
                 Ok(Step::Passed | Step::Nothing) => {}
                 Err(cause) => return Err(ServeFault::Unknown(cause)),
@@ -354,6 +499,9 @@ impl<M: Machine> Replica<M> {
         ensures count { IfOk result (λ n. self.new.place ≡ self.old.place + n) }
         ensures most { IfOk result (λ n. n ≤ most) }
         ensures stopped { IfOk result (λ n. n < most → (MOST_PLACES ≤ self.new.place) ⊎ S.lacks store.new self.new.place) }
+
+        // Then it may write at its place.
+        ensures ready { IfOk result (λ n. n < most → (MOST_PLACES ≤ self.new.place) ⊎ (self.new.behind ≡ false)) }
         ensures fault { IfErr result (λ cause. EndsBy self.old cause self.new) }
         ensures well { OnOk result (self.new.poisoned ≡ false) }
         ensures unanswered { M.silent replies.new }

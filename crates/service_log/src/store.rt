@@ -1,7 +1,8 @@
 //! Stores: logs whose places are written once.
 
-ghost use Rattle.std.specs.Prelude.{◌≡◌, ◌<◌, ℕ, List, true, false, Ok, Err, OnOk, IfErr};
-ghost use Rattle.service_log.specs.Places.{Adds, IsDecidedBelow, IsTaken, Same};
+ghost use Rattle.std.specs.Prelude.{◌≡◌, ◌<◌, ℕ, List, true, false, Ok, Err, OnOk, IfOk, IfErr};
+ghost use Rattle.service_log.specs.Places.{Adds, AddsFrom, IsDecidedBelow, IsTaken, Same};
+ghost use Rattle.service_log.specs.Appends.{HasAppended};
 ghost use Rattle.service_log.specs.declared.store.Put.TheVariants.{Written, Taken};
 ghost use Rattle.service_log.specs.declared.store_fault.StoreFault.TheVariants.{Gap, Trimmed};
 
@@ -17,6 +18,15 @@ pub enum Put {
     Written,
     /// The place had an entry: another one, or this one from an earlier call whose answer was lost.
     Taken,
+}
+
+/// What an append did.
+#[derive(Clone, Copy, Debug, Drop, PartialEq, Eq)]
+pub enum Append {
+    /// This call wrote the entry at this place. All places before it were taken.
+    At(u64),
+    /// This call wrote nothing: the place was taken.
+    Nowhere,
 }
 
 /// Places from 0 on, each of which is written at most once, by the first caller.
@@ -48,6 +58,19 @@ pub trait Store {
         ensures taken { result ≡ Ok Taken → Same (stands self.old) (stands self.new) }
         ensures stood { result ≡ Ok Taken → IsTaken (stands self.new) place }
         ensures adds { Adds (stands self.old) place entry.now (stands self.new) }
+        ensures gap { result ≡ Err Gap → (below : ℕ) × (below < place) × lacks self.new below }
+        ensures fault { IfErr result fails };
+
+    /// Writes an entry at the first place from `place` on that was never written, if it is one of the next ones. The store
+    /// says how many it tries.
+    ///
+    /// # Errors
+    ///
+    /// After any fault the entry may be at one of these places, or get there later, and never at two of them. The fault is
+    /// one of `fails`. `Gap` is returned only if a place before this one is empty.
+    fn append(&mut self, place: u64, entry: &[u8]) -> Result<Append, StoreFault>
+        ensures appended { IfOk result (HasAppended (stands self.old) (stands self.new) (lacks self.old) place entry.now) }
+        ensures adds { AddsFrom (stands self.old) place entry.now (stands self.new) }
         ensures gap { result ≡ Err Gap → (below : ℕ) × (below < place) × lacks self.new below }
         ensures fault { IfErr result fails };
 

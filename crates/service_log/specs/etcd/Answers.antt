@@ -50,3 +50,15 @@ abbrev pub get_said : ℕ → List ℕ → Json → Option (Option (List ℕ))
 get_said index key answer =
     if_header (get (codes "header") answer)
     (stood_said key (option_and_then (at index) (get (codes "kvs") answer)))
+
+-- what a transaction got by the request of this index
+abbrev pub got_said : ℕ → Json → Option Json
+got_said index answer = option_and_then (get (codes "response_range")) (option_and_then (at index) (get (codes "responses") answer))
+
+-- the base64 value of the first entry, if there is one
+abbrev pub first_value : Json → Option (List ℕ)
+first_value answer = option_and_then as_str (option_and_then (get (codes "value")) (option_and_then (at 0) (get (codes "kvs") answer)))
+
+-- the same of an answer; the inner None is one with no entry
+abbrev pub first_said : Json → Option (Option (List ℕ))
+first_said answer = if_header (get (codes "header") answer) (Some (first_value answer))

@@ -1,5 +1,5 @@
 -- What was read of an answer.
-use Rattle.std.specs.Prelude.{◌≡◌, ◌⊎◌, ℕ, zero, suc, ◌+◌, Bool, true, false, List, [], ◌∷◌, Option, Some, None, Ok}
+use Rattle.std.specs.Prelude.{◌≡◌, ◌⊎◌, ℕ, zero, suc, ◌+◌, Bool, true, false, List, [], ◌∷◌, take, drop, Option, Some, None, Ok, option_and_then}
 use Rattle.std.specs.declared.vec.Vec.{Vec}
 use Rattle.std.specs.declared.alloc.Global.{Global}
 use Rattle.json.specs.Json.{Json, document}
@@ -7,8 +7,11 @@ use Rattle.base64.specs.Engines.{standard}
 use Rattle.base64.specs.GeneralPurpose.{decode_of, encode_of}
 use Rattle.service_log.specs.declared.store.Put.{Put}
 use Rattle.service_log.specs.declared.store.Put.TheVariants.{Written, Taken}
-use Rattle.service_log.specs.etcd.Answers.{get_said}
-use Rattle.service_log.specs.etcd.Keys.{key_of}
+use Rattle.service_log.specs.etcd.Answers.{first_said, get_said, got_said, put_said}
+use Rattle.service_log.specs.etcd.Keys.{hint_key_of, key_of, place_said}
+use Rattle.service_log.specs.declared.etcd.answer.Gone.{Gone}
+use Rattle.service_log.specs.declared.etcd.answer.Appended.{Appended}
+use Rattle.service_log.specs.declared.etcd.answer.Appended.TheVariants.{Found, Refused}
 
 abbrev pub is_written : Put → Bool
 is_written Written = true
@@ -47,3 +50,32 @@ pub record SaysAll (most : ℕ) (text prefix : List ℕ) (place : ℕ) (found : 
   pub answer : Json
   pub read : document text ≡ Some answer
   pub says : SaysFrom most answer 0 prefix place found
+
+-- a text is the answer to an append: its conditions held, and it got these entries at the places from this one on; or they did not hold
+abbrev pub SaysAppended : ℕ → List ℕ → List ℕ → ℕ → Appended → Type 0
+SaysAppended most text prefix place (Found found) = (answer : Json) × (got : Json) × (document text ≡ Some answer) × (put_said answer ≡ Some true) ×
+    (got_said 1 answer ≡ Some got) × SaysFrom most got 0 prefix place found.items
+SaysAppended most text prefix place (Refused revision) = (answer : Json) × (document text ≡ Some answer) × (put_said answer ≡ Some false)
+
+-- of two places the one below which entries were given up, and the one before which they were deleted
+abbrev pub gone_by : Option ℕ → Option ℕ → Option Gone
+gone_by (Some below) (Some deleted) = Some (record { below = below; deleted = deleted })
+gone_by below deleted = None
+
+-- what 32 digits note of entries that were given up; none, of other bytes
+abbrev pub gone_noted : List ℕ → Option Gone
+gone_noted bytes = gone_by (place_said (take 16 bytes)) (place_said (drop 16 bytes))
+
+-- an answer says what was noted of entries that were given up, or that nothing was
+abbrev pub SaysGone : Json → Option Gone → Type 0
+SaysGone answer None = first_said answer ≡ Some None
+SaysGone answer (Some gone) = (value : List ℕ) × (bytes : List ℕ) × (first_said answer ≡ Some (Some value)) × (decode_of standard value ≡ Ok bytes) ×
+    (gone_noted bytes ≡ Some gone)
+
+-- an answer says that these bytes stand at the key at which a place is noted under a prefix, and so which place; or that none is noted
+pub record SaysHint (answer : Json) (prefix : List ℕ) (found : Option ℕ) : Type 0 where
+  pub key : List ℕ
+  pub noted : Option (Vec ℕ Global)
+  pub says : SaysAt answer 0 key noted
+  pub at : decode_of standard key ≡ Ok (hint_key_of prefix)
+  pub place : found ≡ option_and_then (λ bytes. place_said bytes.items) noted

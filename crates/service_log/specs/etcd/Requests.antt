@@ -4,7 +4,7 @@ use Rattle.json.specs.Json.{Json, string, array, object, no_items, item, no_memb
 use Rattle.base64.specs.Engines.{standard}
 use Rattle.base64.specs.GeneralPurpose.{decode_of}
 use Rattle.json.specs.Value.{items_of}
-use Rattle.service_log.specs.etcd.Keys.{digits, gone_end_of, gone_key_of, hint_key_of, key_of}
+use Rattle.service_log.specs.etcd.Keys.{digits, fence_key_of, gone_end_of, gone_key_of, hint_key_of, key_of}
 
 -- an object of one member, and a list of one item
 abbrev pub only : List ℕ → Json → Json
@@ -71,11 +71,36 @@ put_request key gone end value = put_if (both (never_created key) (none_created 
 abbrev pub put_behind_request : List ℕ → List ℕ → List ℕ → List ℕ → List ℕ → List ℕ → Json
 put_behind_request before stood key gone end value = put_if (three (never_created key) (holds before stood) (none_created gone end)) key value
 
+-- put the value at the first of these keys that was never created
+abbrev pub put_first : List (List ℕ) → List ℕ → Json
+put_first [] value = object no_members
+put_first (key ∷ keys) value =
+    object (member (codes "compare") (alone (never_created key)) (
+    member (codes "success") (alone (only (codes "request_put") (pair key value))) (
+    member (codes "failure") (alone (only (codes "request_txn") (put_first keys value))) no_members)))
+
 -- get the keys from this one on that come before that one, in their order
 abbrev pub get_request : List ℕ → List ℕ → Json
 get_request key end =
     object (member (codes "key") (string key) (
     member (codes "range_end") (string end) no_members))
+
+-- the fence was changed last at this revision, or never if that is 0; that value stands at the key before; and none of those was created that say
+-- that the place was given up
+abbrev pub fenced : List ℕ → List ℕ → List ℕ → List ℕ → List ℕ → List ℕ → Json
+fenced fence revision before stood gone end =
+    three (compared fence (codes "MOD") (codes "mod_revision") revision) (holds before stood) (none_created gone end)
+
+-- put the value at the first key that is free, and then get what stands at all of them
+abbrev pub first_free : List (List ℕ) → List ℕ → List ℕ → List ℕ → Json
+first_free keys value first until = both (only (codes "request_txn") (put_first keys value)) (only (codes "request_range") (get_request first until))
+
+-- if all of these hold, do so, and else get the fence
+abbrev pub append_request : Json → Json → List ℕ → Json
+append_request conditions put fence =
+    object (member (codes "compare") conditions (
+    member (codes "success") put (
+    member (codes "failure") (alone (only (codes "request_range") (only (codes "key") (string fence)))) no_members)))
 
 -- delete a key, and the keys from one on that come before another
 abbrev pub delete_of : List ℕ → Json
@@ -130,6 +155,36 @@ pub record SaysPutBehind (text prefix : List ℕ) (place : ℕ) (stood entry : L
   pub holds : decode_of standard value ≡ Ok entry
   pub given_up : decode_of standard gone ≡ Ok (gone_key_of prefix place)
   pub to : decode_of standard end ≡ Ok (gone_end_of prefix)
+
+-- a text is the request that puts an entry at the first place that was never written, from one on before another, and gets what stands there; only if
+-- that entry stands at the place before, the place was not given up, and the fence under the prefix was changed last at this revision
+pub record SaysAppend (text prefix : List ℕ) (place last : ℕ) (stood entry revision : List ℕ) : Type 0 where
+  pub fence : List ℕ
+  pub before : List ℕ
+  pub held : List ℕ
+  pub gone : List ℕ
+  pub end : List ℕ
+  pub first : List ℕ
+  pub until : List ℕ
+  pub keys : List (List ℕ)
+  pub value : List ℕ
+  pub says : document text ≡ Some (append_request (fenced fence revision before held gone end) (first_free keys value first until) fence)
+  pub parts : decode_of standard fence ≡ Ok (fence_key_of prefix)
+  pub at_before : decode_of standard before ≡ Ok (key_of prefix (place - 1))
+  pub holds : decode_of standard held ≡ Ok stood
+  pub given_up : decode_of standard gone ≡ Ok (gone_key_of prefix place)
+  pub to : decode_of standard end ≡ Ok (gone_end_of prefix)
+  pub from : decode_of standard first ≡ Ok (key_of prefix place)
+  pub up_to : decode_of standard until ≡ Ok (key_of prefix last)
+  pub at : KeysFrom prefix place keys
+  pub many : place + length keys ≡ last
+  pub puts : decode_of standard value ≡ Ok entry
+
+-- a text is the request that changes the fence under a prefix
+pub record SaysFence (text prefix : List ℕ) : Type 0 where
+  pub key : List ℕ
+  pub says : document text ≡ Some (only (codes "key") (string key))
+  pub at : decode_of standard key ≡ Ok (fence_key_of prefix)
 
 -- a text is the request that gets what stands under a prefix at the places from one on that come before another
 pub record SaysGet (text prefix : List ℕ) (place last : ℕ) : Type 0 where

@@ -1,16 +1,19 @@
 //! The answers of etcd.
 
-ghost use Rattle.std.specs.Prelude.{◌≡◌, ◌≢◌, ◌⊎◌, ◌+◌, ◌<◌, ◌≤◌, ◌^◌, ◌++◌, ℕ, List, Some, None, Ok, Err, IfOk, IfErr, OnOk, IsUtf8, codes, option_map, option_and_then};
+ghost use Rattle.std.specs.Prelude.{◌≡◌, ◌≢◌, ◌⊎◌, ◌+◌, ◌<◌, ◌≤◌, ◌^◌, ◌++◌, ℕ, List, Option, Some, None, Ok, Err, IfOk, IfErr, OnOk, IsUtf8, codes, option_map, option_and_then};
+ghost use Rattle.std.specs.Char.{is_ascii_digit};
+ghost use Rattle.std.specs.List.{list_all};
 ghost use Rattle.std.specs.declared.vec.Vec.{Vec};
 ghost use Rattle.std.specs.declared.alloc.Global.{Global};
 ghost use Rattle.json.specs.Json.{Json, document, string};
 ghost use Rattle.json.specs.Value.{value_view};
 ghost use Rattle.base64.specs.Engines.{standard};
 ghost use Rattle.base64.specs.GeneralPurpose.{decode_of};
-ghost use Rattle.service_log.specs.etcd.Answers.{put_said, entry_said, get_said, revision_said};
+ghost use Rattle.service_log.specs.etcd.Answers.{put_said, entry_said, first_said, first_value, get_said, got_said, revision_said};
+ghost use Rattle.service_log.specs.etcd.Keys.{place_said};
 ghost use Rattle.service_log.specs.etcd.Faults.{IsOverNetwork};
 ghost use Rattle.service_log.specs.etcd.Requests.{only};
-ghost use Rattle.service_log.specs.etcd.Found.{HasUnread, IsUnread, SaysAll, SaysFound, SaysFrom, is_written};
+ghost use Rattle.service_log.specs.etcd.Found.{HasUnread, IsUnread, SaysAll, SaysGone, gone_noted, SaysAppended, SaysFound, SaysFrom, SaysHint, is_written};
 
 use crate::etcd::key::{hint_key64, key64};
 use crate::etcd::request::forget_text;
@@ -211,31 +214,100 @@ pub fn read_get(
     read_all(alloc, &answer, most, prefix, place)
 }
 
+/// What an append was told.
+#[derive(Drop)]
+pub enum Appended {
+    /// Its conditions held. These are the entries at its places then, its own among them if it was written.
+    Found(Vec<Vec<u8>>),
+    /// They did not hold. The fence was changed last at this revision, in digits.
+    Refused(String),
+}
+
+// Returns what a transaction got by the request of this index, or `None` if the JSON is no such answer.
+fn got_said<'a, 'v>(answer: &'a Value<'v>, index: usize) -> Option<&'a Value<'v>>
+    ensures { option_map (λ got. value_view got.now) result ≡ got_said index (value_view answer.now) }
+{
+    answer.get("responses")?.at(index)?.get("response_range")
+}
+
+// Returns the revision at which the first key of an answer was changed last, in digits, or `None` if there is none.
+fn revision_of_first<'v>(got: &Value<'v>) -> Option<&'v str> {
+    got.get("kvs")?.at(0)?.get("mod_revision")?.as_str()
+}
+
+// Returns the revision of the fence as an append was told. A fence that was never changed has none: it is 0.
+fn fence_said(alloc: Global, answer: &Value<'_>) -> Result<String, StoreFault>
+    ensures { IfErr result IsOverNetwork }
+{
+    let Some(got) = got_said(answer, 0) else {
+        return Err(StoreFault::Wrong);
+    };
+    let revision = revision_of_first(got).unwrap_or("0");
+    match String::from_str(alloc, revision) {
+        Ok(revision) => Ok(revision),
+        Err(_) => Err(StoreFault::Memory),
+    }
+}
+
+/// Reads the body of an answer to a request that appends at one of the places from `place` on, `most` of them. Not proved:
+/// which revision the fence has. Nothing is written if it is another one.
+///
+/// # Errors
+///
+/// - `Memory`: an allocation failed.
+/// - `Wrong`: the body is no such answer.
+pub fn read_append(
+    alloc: Global,
+    body: &[u8],
+    most: usize,
+    prefix: &str,
+    place: u64,
+) -> Result<Appended, StoreFault>
+    ensures said { IfOk result (SaysAppended most body.now prefix.now place) }
+    ensures fault { IfErr result IsOverNetwork }
+{
+    let mut scratch = Scratch::new(alloc);
+    let answer = parsed(alloc, body, &mut scratch)?;
+    match put_said(&answer) {
+        Some(true) => match got_said(&answer, 1) {
+            Some(got) => Ok(Appended::Found(read_all(alloc, got, most, prefix, place)?)),
+            None => Err(StoreFault::Wrong),
+        },
+        Some(false) => Ok(Appended::Refused(fence_said(alloc, &answer)?)),
+        None => Err(StoreFault::Wrong),
+    }
+}
+
+// Whether bytes are digits.
+fn are_digits(bytes: &[u8]) -> bool
+    ensures { result ≡ list_all is_ascii_digit bytes.now }
+{
+    bytes.iter().all(|byte| byte.is_ascii_digit())
+}
+
 // Returns the number that 16 digits say, or `None` of other bytes.
-fn place_of(digits: &[u8]) -> Option<u64> {
-    if digits.len() != 16 {
+fn place_of(digits: &[u8]) -> Option<u64>
+    ensures { result ≡ place_said digits.now }
+{
+    if digits.len() != 16 || !are_digits(digits) {
         return None;
     }
     let mut place = 0u64;
     for digit in digits {
-        if !digit.is_ascii_digit() {
-            return None;
-        }
-        place = place
-            .wrapping_mul(10)
-            .wrapping_add((*digit).wrapping_sub(b'0') as u64);
+        place = place * 10 + u64::from(*digit - b'0');
     }
     Some(place)
 }
 
 /// Reads the body of an answer to a request that gets the place that is noted under a prefix. Returns `None` if no place
-/// is noted. Not proved: which place it returns. It is a hint alone.
+/// is noted, or what is noted is none. It is a hint alone.
 ///
 /// # Errors
 ///
 /// - `Memory`: an allocation failed.
 /// - `Wrong`: the body is no such answer.
 pub fn read_hint(alloc: Global, body: &[u8], prefix: &str) -> Result<Option<u64>, StoreFault>
+    ensures said { IfOk result (λ found. (answer : Json) × (document body.now ≡ Some answer) × SaysHint answer prefix.now found) }
     ensures fault { IfErr result IsOverNetwork }
 {
     let Ok(key) = hint_key64(alloc, prefix) else {
@@ -260,12 +332,24 @@ pub struct Gone {
 }
 
 // Returns the base64 value of the first entry of an answer, if there is one.
-fn first_value<'v>(answer: &Value<'v>) -> Option<&'v str> {
+fn first_value<'v>(answer: &Value<'v>) -> Option<&'v str>
+    ensures { option_map (λ text. text.now) result ≡ first_value (value_view answer.now) }
+{
     answer.get("kvs")?.at(0)?.get("value")?.as_str()
 }
 
+// The same, where the inner `None` is an answer with no entry, and the outer one is JSON that is no answer.
+fn first_said<'v>(answer: &Value<'v>) -> Option<Option<&'v str>>
+    ensures { option_map (λ found. option_map (λ text. text.now) found) result ≡ first_said (value_view answer.now) }
+{
+    answer.get("header")?;
+    Some(first_value(answer))
+}
+
 // Returns what two places in 16 digits each note, or `None` of other bytes.
-fn gone_of(digits: &[u8]) -> Option<Gone> {
+fn gone_of(digits: &[u8]) -> Option<Gone>
+    ensures { result ≡ gone_noted digits.now }
+{
     let (below, deleted) = digits.split_at_checked(16)?;
     Some(Gone {
         below: place_of(below)?,
@@ -273,28 +357,38 @@ fn gone_of(digits: &[u8]) -> Option<Gone> {
     })
 }
 
+// Returns what an answer says of entries that were given up.
+fn gone_said(alloc: Global, answer: &Value<'_>) -> Result<Option<Gone>, StoreFault>
+    ensures said { IfOk result (SaysGone (value_view answer.now)) }
+    ensures fault { IfErr result IsOverNetwork }
+    ensures wrong { result ≡ Err StoreFault.Wrong → (found : Option Gone) → ¬ (SaysGone (value_view answer.now) found) }
+{
+    match first_said(answer) {
+        Some(Some(text)) => match gone_of(&decoded(alloc, text)?) {
+            Some(gone) => Ok(Some(gone)),
+            None => Err(StoreFault::Wrong),
+        },
+        Some(None) => Ok(None),
+        None => Err(StoreFault::Wrong),
+    }
+}
+
 /// Reads the body of an answer to a request that gets what was noted of entries that were given up. Returns `None` if
-/// nothing was noted. Not proved: which places it returns. No entry hangs on them: a put compares the keys themselves.
+/// nothing was noted. No entry hangs on it: a put compares the keys themselves.
 ///
 /// # Errors
 ///
 /// - `Memory`: an allocation failed.
 /// - `Wrong`: the body is no such answer.
 pub fn read_gone(alloc: Global, body: &[u8]) -> Result<Option<Gone>, StoreFault>
+    ensures said { IfOk result (λ found. (answer : Json) × (document body.now ≡ Some answer) × SaysGone answer found) }
     ensures fault { IfErr result IsOverNetwork }
+    ensures wrong { result ≡ Err StoreFault.Wrong → IsUtf8 body.now → (answer : Json) → document body.now ≡ Some answer →
+        (found : Option Gone) → ¬ (SaysGone answer found) }
 {
     let mut scratch = Scratch::new(alloc);
     let answer = parsed(alloc, body, &mut scratch)?;
-    if answer.get("header").is_none() {
-        return Err(StoreFault::Wrong);
-    }
-    let Some(text) = first_value(&answer) else {
-        return Ok(None);
-    };
-    match gone_of(&decoded(alloc, text)?) {
-        Some(gone) => Ok(Some(gone)),
-        None => Err(StoreFault::Wrong),
-    }
+    gone_said(alloc, &answer)
 }
 
 // Returns the revision of the store at which it answered, in digits, or `None` if the JSON is no answer.

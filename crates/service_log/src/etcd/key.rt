@@ -3,7 +3,7 @@
 ghost use Rattle.std.specs.Prelude.{◌≡◌, ◌<◌, ◌^◌, ◌++◌, ◌∷◌, [], codes, ℕ, List, Ok, IfOk, OnOk, string_bytes};
 ghost use Rattle.base64.specs.Engines.{standard};
 ghost use Rattle.base64.specs.GeneralPurpose.{decode_of, encode_of};
-ghost use Rattle.service_log.specs.etcd.Keys.{digits, gone_end_of, gone_key_of, hint_key_of, key_of};
+ghost use Rattle.service_log.specs.etcd.Keys.{digits, fence_key_of, gone_end_of, gone_key_of, hint_key_of, key_of};
 
 use base64::engine::general_purpose::STANDARD;
 use std::alloc::{AllocError, Global};
@@ -70,6 +70,20 @@ pub fn hint_key64(alloc: Global, prefix: &str) -> Result<String, AllocError>
 {
     let mut key = Vec::from_slice(alloc, prefix.as_bytes())?;
     key.extend_from_slice(b"last")?;
+    STANDARD.encode(alloc, &key)
+}
+
+/// Returns the key under a prefix whose changes part the appends of before from those of later, in base64: the prefix and
+/// `fence`.
+///
+/// # Errors
+///
+/// `AllocError`: an allocation failed.
+pub fn fence_key64(alloc: Global, prefix: &str) -> Result<String, AllocError>
+    ensures { IfOk result (λ text. decode_of standard (string_bytes text) ≡ Ok (fence_key_of prefix.now)) }
+{
+    let mut key = Vec::from_slice(alloc, prefix.as_bytes())?;
+    key.extend_from_slice(b"fence")?;
     STANDARD.encode(alloc, &key)
 }
 
