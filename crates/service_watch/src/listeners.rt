@@ -5,7 +5,7 @@
 //! From `service_host/src/start.rt`:
 //!
 //! ```text
-//! let Listening { listeners, file } = listen(rt, alloc, plan.listen)?;
+//! let Listening { listeners, files } = listen(rt, alloc, plan.listen)?;
 //! ```
 pub mod fault;
 pub mod listening;
@@ -13,4 +13,4 @@ pub mod socket_file;
 
 pub use fault::ListenFault;
 pub use listening::{ListenPlan, Listeners, Listening, listen};
-pub use socket_file::{LocalListener, SocketFile, SocketPlan};
+pub use socket_file::{LocalListener, SocketFile, SocketFiles, SocketPlan};

@@ -10,10 +10,10 @@ pub enum ListenFault {
     #[error("network fault: {0}")]
     Network(ErrorKind),
     /// Somebody listens on the socket of the path.
-    #[error("socket in use: somebody listens on the path of --unix")]
+    #[error("socket in use: somebody listens on the path of --unix or --admin")]
     InUse,
     /// What the path names is no socket.
-    #[error("socket fault: the path of --unix names a file, a folder or a link, which was not removed")]
+    #[error("socket fault: the path of --unix or --admin names a file, a folder or a link, which was not removed")]
     NotSocket,
     /// To look at the path, to remove an old socket, to listen there or to set the mode failed, so the system told.
     #[error("socket fault: {0}")]

@@ -1,7 +1,9 @@
 //! All that a server listens on.
 
 use crate::listeners::fault::ListenFault;
-use crate::listeners::socket_file::{LocalListener, SocketFile, SocketPlan, listen_at};
+use crate::listeners::socket_file::{
+    LocalListener, SocketFile, SocketFiles, SocketPlan, listen_at,
+};
 use mio::net::TcpListener;
 use std::alloc::Global;
 use std::io;
@@ -15,6 +17,8 @@ pub struct ListenPlan<'a> {
     pub network: Option<SocketAddr>,
     /// The socket of the file system for clients.
     pub local: Option<SocketPlan<'a>>,
+    /// The socket of the file system for administrators.
+    pub admin: Option<SocketPlan<'a>>,
     /// The address and the port for whoever watches.
     pub metrics: Option<SocketAddr>,
 }
@@ -26,17 +30,19 @@ pub struct Listeners {
     pub network: Option<TcpListener>,
     /// For clients of this machine.
     pub local: Option<LocalListener>,
+    /// For administrators.
+    pub admin: Option<LocalListener>,
     /// For whoever watches.
     pub metrics: Option<TcpListener>,
 }
 
-/// What is listened on, and the file of the socket, which is to be removed at the end.
+/// What is listened on, and the files of the sockets, which are to be removed at the end.
 #[derive(Drop)]
 pub struct Listening {
     /// The listeners.
     pub listeners: Listeners,
-    /// The file of the socket, where there is one.
-    pub file: Option<SocketFile>,
+    /// The files of the sockets.
+    pub files: SocketFiles,
 }
 
 // Listens on a port, where one is wanted.
@@ -47,11 +53,26 @@ fn listen_on<R: Net>(rt: &R, address: Option<SocketAddr>) -> io::Result<Option<T
     }
 }
 
+// Listens on a socket of the file system, where one is wanted.
+fn listen_locally<R: Net + Files>(
+    rt: &R,
+    alloc: Global,
+    plan: Option<SocketPlan<'_>>,
+) -> Result<(Option<LocalListener>, Option<SocketFile>), ListenFault> {
+    match plan {
+        Some(plan) => {
+            let (listener, file) = listen_at(rt, alloc, plan)?;
+            Ok((Some(listener), Some(file)))
+        }
+        None => Ok((None, None)),
+    }
+}
+
 /// Listens on all that is wanted: first on the ports, so that nothing is made in the file system where one is taken.
 ///
 /// # Errors
 ///
-/// `Network` where the system refuses a port, and those of `listen_at` for the socket.
+/// `Network` where the system refuses a port, and those of `listen_at` for a socket.
 pub fn listen<R: Net + Files>(
     rt: &R,
     alloc: Global,
@@ -59,17 +80,18 @@ pub fn listen<R: Net + Files>(
 ) -> Result<Listening, ListenFault> {
     let network = listen_on(rt, plan.network)?;
     let metrics = listen_on(rt, plan.metrics)?;
-    let (local, file) = match plan.local {
-        Some(plan) => {
-            let (listener, file) = listen_at(rt, alloc, plan)?;
-            (Some(listener), Some(file))
-        }
-        None => (None, None),
-    };
-    let listeners = Listeners {
-        network,
-        local,
-        metrics,
-    };
-    Ok(Listening { listeners, file })
+    let (local, local_file) = listen_locally(rt, alloc, plan.local)?;
+    let (admin, admin_file) = listen_locally(rt, alloc, plan.admin)?;
+    Ok(Listening {
+        listeners: Listeners {
+            network,
+            local,
+            admin,
+            metrics,
+        },
+        files: SocketFiles {
+            local: local_file,
+            admin: admin_file,
+        },
+    })
 }

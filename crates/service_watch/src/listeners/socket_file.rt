@@ -102,3 +102,25 @@ impl SocketFile {
         }
     }
 }
+
+/// The files of all sockets that are listened on.
+#[derive(Drop)]
+pub struct SocketFiles {
+    /// That for clients, where there is one.
+    pub local: Option<SocketFile>,
+    /// That for administrators, where there is one.
+    pub admin: Option<SocketFile>,
+}
+
+impl SocketFiles {
+    /// Removes them, as `SocketFile::remove` does.
+    pub fn remove<R: Files>(self, rt: &R) {
+        let SocketFiles { local, admin } = self;
+        if let Some(file) = local {
+            file.remove(rt);
+        }
+        if let Some(file) = admin {
+            file.remove(rt);
+        }
+    }
+}
