@@ -27,6 +27,7 @@ use Rattle.service_loop.specs.Seats.{LoopIteration, Seating}
 use Rattle.service_loop.specs.Table.{AreNumbered}
 use Rattle.service_loop.specs.Taking.{TakingsKept, TakingsPrefetched}
 use Rattle.service_loop.specs.declared.connection.Connection.{Connection}
+use Rattle.service_loop.specs.declared.manner.Manner.{Manner}
 use Rattle.service_loop.proofs.AttendedLemmas.{hears_none, hears_then}
 use Rattle.service_loop.proofs.RoundLemmas.{served_none, served_then, served_waits}
 use Rattle.service_loop.proofs.cited.ReleaseLemmas.{served_due}
@@ -98,12 +99,12 @@ lost_all kind stays (line ∷ lines) =
     let one = lost_act stays (entered_by (meaning kind line)) in
     lost_append one (lost_acts kind (after_acts stays one) lines) (lost_one stays (entered_by (meaning kind line))) (lost_all kind (after_acts stays one) lines)
 
-module _ {C D K : Type 0} (on : Seating C) (wide : Bool) (may : D → Request → ShownReply → D → Type 0) (prefetches : K → D → List ℕ → K → D → Type 0) (persists waits : K → D → K → D → Type 0) (shares : K → Bool) (holds : K → D → SlotsState ℕ) (grace : Option ℕ) where
+module _ {C D K : Type 0} (on : Seating C) (manner : Manner) (may : D → Request → ShownReply → D → Type 0) (prefetches : K → D → List ℕ → K → D → Type 0) (persists waits : K → D → K → D → Type 0) (shares : K → Bool) (holds : K → D → SlotsState ℕ) (grace : Option ℕ) where
   abbrev Was : K → Attended D → K → Attended D → Type 0
-  Was k w l u = WasAttended on wide may prefetches persists waits shares holds grace k w l u
+  Was k w l u = WasAttended on manner may prefetches persists waits shares holds grace k w l u
 
   abbrev All : K → Attended D → List AttendedDeed → K → Attended D → Type 0
-  All k w deeds l u = AllAttended on wide may prefetches persists waits shares holds grace k w deeds l u
+  All k w deeds l u = AllAttended on manner may prefetches persists waits shares holds grace k w deeds l u
 
   -- nothing was done
   pub attended_none : (k : K) (w : Attended D) → Was k w k w
@@ -118,9 +119,9 @@ module _ {C D K : Type 0} (on : Seating C) (wide : Bool) (may : D → Request �
   attended_then k mid l w v u one two = (one.0 ++ two.0, all_then one.0 two.0 k mid l w v u one.1 two.1)
 
   -- by a Boolean that says the same of the world
-  pub attended_more : (told : Bool) → told ≡ wide → (k mid l : K) (w v u : Attended D) → Was k w mid v → WasAttended on told may prefetches persists waits shares holds grace mid v l u → Was k w l u
+  pub attended_more : (told : Manner) → told ≡ manner → (k mid l : K) (w v u : Attended D) → Was k w mid v → WasAttended on told may prefetches persists waits shares holds grace mid v l u → Was k w l u
   attended_more told is k mid l w v u one two =
-      attended_then k mid l w v u one (subst (λ (b : Bool). WasAttended on b may prefetches persists waits shares holds grace mid v l u) is two)
+      attended_then k mid l w v u one (subst (λ (b : Manner). WasAttended on b may prefetches persists waits shares holds grace mid v l u) is two)
 
   -- the persister went on by itself, or nothing was done
   pub attended_maybe : (k l : K) (w : Attended D) (d : D) → ((l ≡ k) × (d ≡ w.service)) ⊎ waits k w.service l d → Was k w l (record w { service = d })
@@ -133,7 +134,7 @@ module _ {C D K : Type 0} (on : Seating C) (wide : Bool) (may : D → Request �
 
   -- it was heard which connections ended, and the stays that are due were ended
   pub attended_ends : {may_answer : K → Type 0} {S A : Type 0} (passed : Bool) (tick : ℕ) (lost : Bool) (endings : List Ending) (numbers : List ℕ) (seats : List (Option (Connection S A))) (k l : K) (w u : Attended D) →
-      HearsAndEnds may_answer (EndsDue wide may persists waits shares holds) grace passed tick (acts_of_endings tick lost endings) numbers seats k w l u → Was k w l u
+      HearsAndEnds may_answer (EndsDue manner.wide may persists waits shares holds) grace passed tick (acts_of_endings tick lost endings) numbers seats k w l u → Was k w l u
   attended_ends passed tick lost endings numbers seats k l w u h =
       (Ends passed tick lost endings ∷ [], (l, u, record { heard = h.heard; hears = h.hears; same = h.same; ended = h.ended }, (refl, refl)))
 
@@ -143,7 +144,7 @@ module _ {C D K : Type 0} (on : Seating C) (wide : Bool) (may : D → Request �
       (Serves numbers t.log ∷ [], (l, u, record { seats = seats; seats' = seats'; turn = t; log_is = refl; next = next; numbered = numbered; hears = hears }, (refl, refl)))
 
   -- or numbers
-  pub attended_takings : (ahead patient : Bool) (numbers : List ℕ) (next : ℕ) → AreNumbered numbers next → (k l : K) (w u : Attended D) (seats seats' : List (Option C)) → (t : TakingsKept on wide ahead patient may persists k w.service seats l u.service seats') → Hears (acts_in (number_at numbers) t.log) w u → Was k w l u
+  pub attended_takings : (ahead patient : Bool) (numbers : List ℕ) (next : ℕ) → AreNumbered numbers next → (k l : K) (w u : Attended D) (seats seats' : List (Option C)) → (t : TakingsKept on manner ahead patient may persists k w.service seats l u.service seats') → Hears (acts_in (number_at numbers) t.log) w u → Was k w l u
   attended_takings ahead patient numbers next numbered k l w u seats seats' t hears =
       (Takes numbers t.log ∷ [], (l, u, record { ahead = ahead; patient = patient; seats = seats; seats' = seats'; taking = t; log_is = refl; next = next; numbered = numbered; hears = hears }, (refl, refl)))
 
@@ -162,20 +163,20 @@ module _ {C D K : Type 0} (on : Seating C) (wide : Bool) (may : D → Request �
       (attended_turn numbers next numbered t.prefetched_by l (record w { service = t.ready }) u t.gathered_seats seats' t.turn (outside w t.ready u hears))
 
   pub attended_takings_prefetched : (ahead patient : Bool) (numbers : List ℕ) (next : ℕ) → AreNumbered numbers next → (k l : K) (w u : Attended D) (lines : List ℕ) (seats seats' : List (Option C)) →
-      (t : TakingsPrefetched on wide ahead patient may prefetches persists k w.service seats lines l u.service seats') → Hears (acts_in (number_at numbers) t.turn.log) w u → Was k w l u
+      (t : TakingsPrefetched on manner ahead patient may prefetches persists k w.service seats lines l u.service seats') → Hears (acts_in (number_at numbers) t.turn.log) w u → Was k w l u
   attended_takings_prefetched ahead patient numbers next numbered k l w u lines seats seats' t hears =
       prefetched_then lines k t.prefetched_by l w u t.ready t.prefetched
       (attended_takings ahead patient numbers next numbered t.prefetched_by l (record w { service = t.ready }) u seats seats' t.turn (outside w t.ready u hears))
 
   -- so it is what a server does to its service and its persister
-  served_ends : (passed : Bool) (tick : ℕ) (acts : List Act) (k l : K) (w u : Attended D) → EndsStays on wide may prefetches persists waits shares holds grace passed tick acts k w l u → WasServed may prefetches persists waits k w.service l u.service
+  served_ends : (passed : Bool) (tick : ℕ) (acts : List Act) (k l : K) (w u : Attended D) → EndsStays on manner may prefetches persists waits shares holds grace passed tick acts k w l u → WasServed may prefetches persists waits k w.service l u.service
   served_ends passed tick acts k l w u e = subst (λ (d : D). WasServed may prefetches persists waits k d l u.service) e.same
       (elim e.ended.only as (λ _. WasServed may prefetches persists waits k e.heard.service l u.service) [
         | inl none ↦ rw (none.0, none.1) (served_none may prefetches persists waits k e.heard.service)
-        | inr some ↦ served_due wide may prefetches persists waits shares holds _ k l e.heard u some.2
+        | inr some ↦ served_due manner.wide may prefetches persists waits shares holds _ k l e.heard u some.2
       ])
 
-  served_by : (deed : AttendedDeed) (k l : K) (w u : Attended D) → AttendedBy on wide may prefetches persists waits shares holds grace k w deed l u → WasServed may prefetches persists waits k w.service l u.service
+  served_by : (deed : AttendedDeed) (k l : K) (w u : Attended D) → AttendedBy on manner may prefetches persists waits shares holds grace k w deed l u → WasServed may prefetches persists waits k w.service l u.service
   served_by Waits k l w u by = served_waits may prefetches persists waits k l w.service u.service by.0
   served_by (Prefetches lines) k l w u by = (Deed.Prefetches lines ∷ [], (l, u.service, by.0, (refl, refl)))
   served_by (Serves numbers log) k l w u by =
@@ -205,7 +206,7 @@ module _ {C D K : Type 0} (on : Seating C) (wide : Bool) (may : D → Request �
   left_same : (w u : Attended D) → u ≡ w → LeftBy w u
   left_same w u same = ([], subst (λ (v : Attended D). Hears [] w v) (sym same) (hears_none w), tt)
 
-  left_due : (due : List ℕ) (k l : K) (w u : Attended D) → EndsDue wide may persists waits shares holds due k w l u → LeftBy w u
+  left_due : (due : List ℕ) (k l : K) (w u : Attended D) → EndsDue manner.wide may persists waits shares holds due k w l u → LeftBy w u
   left_due due k l w u (inl on) =
       let f = on.1.forgot in
       let ids = filter (λ id. not (competes_for (holds l on.1.reached.service) id)) due in
@@ -215,7 +216,7 @@ module _ {C D K : Type 0} (on : Seating C) (wide : Bool) (may : D → Request �
       let turns = r.released.turns in
       (freed_in turns ++ [], hears_then (freed_in turns) [] w r.reported u r.released.heard r.same, left_append (freed_in turns) [] (left_in turns) tt)
 
-  heard_ends : (passed : Bool) (tick : ℕ) (lost : Bool) (endings : List Ending) (k l : K) (w u : Attended D) → EndsStays on wide may prefetches persists waits shares holds grace passed tick (acts_of_endings tick lost endings) k w l u → HeardFirst (Ends passed tick lost endings) w u
+  heard_ends : (passed : Bool) (tick : ℕ) (lost : Bool) (endings : List Ending) (k l : K) (w u : Attended D) → EndsStays on manner may prefetches persists waits shares holds grace passed tick (acts_of_endings tick lost endings) k w l u → HeardFirst (Ends passed tick lost endings) w u
   heard_ends passed tick lost endings k l w u e =
       let first = acts_of_endings tick lost endings in
       let left : LeftBy e.heard u = elim e.ended.only as (λ _. LeftBy e.heard u) [
@@ -224,7 +225,7 @@ module _ {C D K : Type 0} (on : Seating C) (wide : Bool) (may : D → Request �
       ] in
       (first ++ left.0, hears_then first left.0 w e.heard u e.hears left.1, λ deeds rest later. (left.0, rest, append_assoc first left.0 rest, left.2, later))
 
-  heard_by : (deed : AttendedDeed) (k l : K) (w u : Attended D) → AttendedBy on wide may prefetches persists waits shares holds grace k w deed l u → HeardFirst deed w u
+  heard_by : (deed : AttendedDeed) (k l : K) (w u : Attended D) → AttendedBy on manner may prefetches persists waits shares holds grace k w deed l u → HeardFirst deed w u
   heard_by Waits k l w u by = ([], by.1, λ deeds rest later. later)
   heard_by (Prefetches lines) k l w u by = ([], by.1, λ deeds rest later. later)
   heard_by (Serves numbers log) k l w u by = (acts_in (number_at numbers) log, by.hears, λ deeds rest later. (rest, refl, later))
@@ -248,7 +249,7 @@ module _ {C D K : Type 0} (on : Seating C) (wide : Bool) (may : D → Request �
       (h.stays_are well).1 ∙ rw kept refl
 
   pub keeps_grace : ((g tick : ℕ) (first : List KeptStay) (acts : List Act) (stay : KeptStay) → Has stay (after_acts first acts) → IsDue g tick stay.keeper → IsGraced g tick first acts stay) →
-      KeepsGrace on wide may prefetches persists waits shares holds grace
+      KeepsGrace on manner may prefetches persists waits shares holds grace
   keeps_grace law = λ k mid l w v u deeds passed tick lost endings all e keeps well g stay has due.
       let heard = heard_all deeds k mid w v all in
       let ends = acts_of_endings tick lost endings in

@@ -15,13 +15,14 @@ use Rattle.service_loop.specs.declared.attended.Ending.{Ending}
 use Rattle.service_loop.specs.Attending.{AttendedMay, Hears, act_of_ending, after_ending, acts_in, acts_of, acts_of_turn, gives_back, heard, keeps_by}
 use Rattle.service_loop.specs.Releasing.{is_freed, is_missed, lacks_number}
 use Rattle.service_loop.specs.Taking.{wants_search}
+use Rattle.service_loop.specs.Tokens.{is_got}
 
 -- what a reply tells of stays, and of `probe` and `seek`
 abbrev pub Tells : Type 0
-Tells = record { keeps : Bool; gives : Bool; freed : Bool; lacks : Bool; missed : Bool; wants : Bool }
+Tells = record { keeps : Bool; gives : Bool; freed : Bool; lacks : Bool; missed : Bool; wants : Bool; got : Bool }
 
 abbrev pub tells : {V : Type 0} → Reply V → Tells
-tells r = record { keeps = keeps_by r; gives = gives_back r; freed = is_freed r; lacks = lacks_number r; missed = is_missed r; wants = wants_search r }
+tells r = record { keeps = keeps_by r; gives = gives_back r; freed = is_freed r; lacks = lacks_number r; missed = is_missed r; wants = wants_search r; got = is_got r }
 
 -- it tells the same whatever view it shows
 pub shown : {V W : Type 0} (r : Reply V) (v : W) → tells (with_view r v) ≡ tells r

@@ -1,6 +1,7 @@
 mod LfLemmas
 mod TakeQueueLemmas
 mod AnswerLemmas
+mod FeedLemmas
 mod AttendanceLemmas
 mod AttendedLemmas
 mod BuffersLemmas
@@ -11,6 +12,7 @@ mod LosingLemmas
 mod PeekLemmas
 mod PoolLemmas
 mod OwnLemmas
+mod OwnerLemmas
 mod ReportedLemmas
 mod RoundLemmas
 mod SeatLemmas

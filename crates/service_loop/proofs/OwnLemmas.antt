@@ -1,5 +1,5 @@
 -- lines that the server answers by itself, and those that are none of them
-use Rattle.std.proofs.Common.{◌≡◌, ◌⊎◌, inl, inr, ℕ, zero, suc, ◌+◌, ◌<◌, ◌==◌, cond, not, Bool, true, false, List, [], ◌∷◌, ◌++◌, length, take, drop, get_or, codes, Option, Some, None, refl, sym, ap, subst, ◌∙◌, arith, length-append}
+use Rattle.std.proofs.Common.{◌≡◌, ◌⊎◌, inl, inr, ℕ, zero, suc, ◌+◌, ◌<◌, ◌==◌, ◌||◌, cond, not, Bool, true, false, List, [], ◌∷◌, ◌++◌, length, take, drop, get_or, codes, Option, Some, None, refl, sym, ap, subst, ◌∙◌, arith, length-append}
 use Rattle.std.specs.List.{list_all}
 use Rattle.std.proofs.lemmas.Bool.{and_from, and_parts, or_parts, eqb-true, false_from_ne_true}
 use Rattle.std.proofs.lemmas.List.{append-nil, take-append-drop, take_all, take_more}
@@ -40,13 +40,15 @@ lacks_take c (suc n) (x ∷ xs) h =
     and_from (not (x == c)) (lacks c (take n xs)) parts.0 (lacks_take c n xs parts.1)
 
 own_by : (line : List ℕ) → same_bytes line (codes "terms") ≡ false → same_bytes line (codes "held") ≡ false → same_bytes (take 10 line) (codes "held from ") ≡ false →
-    same_bytes (take 5 line) (codes "held ") ≡ false → same_bytes (take 5 line) (codes "take ") ≡ false → is_own line ≡ false
-own_by line t h p g k = rw (t, h, p, g, k) refl
+    same_bytes (take 5 line) (codes "held ") ≡ false → same_bytes line (codes "watch") ≡ false → same_bytes (take 6 line) (codes "watch ") ≡ false →
+    same_bytes (take 5 line) (codes "take ") ≡ false → is_own line ≡ false
+own_by line t h p g w v k = rw (t, h, p, g, w, v, k) refl
 
 -- a line that lacks these letters is none
 lacking : (line : List ℕ) → lacks 104 line ≡ true → lacks 107 line ≡ true → lacks 109 line ≡ true → is_own line ≡ false
 lacking line h k m = own_by line (not_same 109 line (codes "terms") m refl) (not_same 104 line (codes "held") h refl)
-    (not_same 104 (take 10 line) (codes "held from ") (lacks_take 104 10 line h) refl) (not_same 104 (take 5 line) (codes "held ") (lacks_take 104 5 line h) refl) (not_same 107 (take 5 line) (codes "take ") (lacks_take 107 5 line k) refl)
+    (not_same 104 (take 10 line) (codes "held from ") (lacks_take 104 10 line h) refl) (not_same 104 (take 5 line) (codes "held ") (lacks_take 104 5 line h) refl) (not_same 104 line (codes "watch") h refl)
+    (not_same 104 (take 6 line) (codes "watch ") (lacks_take 104 6 line h) refl) (not_same 107 (take 5 line) (codes "take ") (lacks_take 107 5 line k) refl)
 
 first_other : (b c : ℕ) (bs cs : List ℕ) → (b == c) ≡ false → same_bytes (b ∷ bs) (c ∷ cs) ≡ false
 first_other b c bs cs e = rw e refl
@@ -55,9 +57,12 @@ first_other b c bs cs e = rw e refl
 pub begins_other : (line : List ℕ) → begins line ≡ false → is_own line ≡ false
 begins_other [] h = refl
 begins_other (b ∷ bs) h =
-    let parts = or_parts (b == 104) (b == 116) h in
-    own_by (b ∷ bs) (first_other b 116 bs (drop 1 (codes "terms")) parts.1) (first_other b 104 bs (drop 1 (codes "held")) parts.0)
-    (first_other b 104 (take 9 bs) (drop 1 (codes "held from ")) parts.0) (first_other b 104 (take 4 bs) (drop 1 (codes "held ")) parts.0) (first_other b 116 (take 4 bs) (drop 1 (codes "take ")) parts.1)
+    let parts = or_parts (b == 104) ((b == 116) || (b == 119)) h in
+    let others = or_parts (b == 116) (b == 119) parts.1 in
+    own_by (b ∷ bs) (first_other b 116 bs (drop 1 (codes "terms")) others.0) (first_other b 104 bs (drop 1 (codes "held")) parts.0)
+    (first_other b 104 (take 9 bs) (drop 1 (codes "held from ")) parts.0) (first_other b 104 (take 4 bs) (drop 1 (codes "held ")) parts.0)
+    (first_other b 119 bs (drop 1 (codes "watch")) others.1) (first_other b 119 (take 5 bs) (drop 1 (codes "watch ")) others.1)
+    (first_other b 116 (take 4 bs) (drop 1 (codes "take ")) others.0)
 
 pub begins_cut : (n : ℕ) (bytes : List ℕ) → begins bytes ≡ false → begins (take n bytes) ≡ false
 begins_cut zero bytes h = refl

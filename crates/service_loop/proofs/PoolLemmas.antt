@@ -1,6 +1,5 @@
 -- pools of a server, each at its place
-use Rattle.std.proofs.Common.{ℕ, zero, suc, Bool, List, [], ◌∷◌, Option, set, get_or, refl, ap, subst, ◌∙◌}
-use Rattle.model_asked.specs.Config.{is_wide}
+use Rattle.std.proofs.Common.{ℕ, zero, suc, Bool, List, [], ◌∷◌, Option, set, get_or, refl, subst, ◌∙◌}
 use Rattle.model_asked.specs.Replies.{ShownReply}
 use Rattle.model_asked.specs.Requests.{Request}
 use Rattle.model_pool.specs.slots.SlotsState.{SlotsState}
@@ -40,12 +39,12 @@ each_so R S so (x ∷ xs) (y ∷ ys) h = (so x y h.0, each_so R S so xs ys h.1)
 
 module _ {D K L : Type 0} where
   same_pool : (p : HostedPool D K L) → IsSamePool p p
-  same_pool p = record { name = refl; kind = refl; grace = refl; persister = refl; service = refl }
+  same_pool p = record { name = refl; manner = refl; grace = refl; persister = refl; service = refl }
 
   same_then : (p q r : HostedPool D K L) → IsSamePool p q → IsSamePool q r → IsSamePool p r
   same_then p q r h g = record {
     name = g.name ∙ h.name;
-    kind = g.kind ∙ h.kind;
+    manner = g.manner ∙ h.manner;
     grace = g.grace ∙ h.grace;
     persister = g.persister ∙ h.persister;
     service = g.service ∙ h.service;
@@ -68,9 +67,9 @@ module _ {D K L : Type 0} (may : D → Request → ShownReply → D → Type 0) 
   pub same_attended : (p q : HostedPool D K L) → IsSamePool p q → PoolWasAttended may prefetches persists waits shares holds p q
   same_attended p q s = record {
     name = s.name;
-    kind = s.kind;
+    manner = s.manner;
     grace = s.grace;
-    attended = rw (s.persister, s.service) (attended_none hosted (is_wide p.kind) may prefetches persists waits shares holds p.grace p.persister p.service);
+    attended = rw (s.persister, s.service) (attended_none hosted p.manner may prefetches persists waits shares holds p.grace p.persister p.service);
   }
 
   attended_same : (p : HostedPool D K L) → PoolWasAttended may prefetches persists waits shares holds p p
@@ -79,10 +78,10 @@ module _ {D K L : Type 0} (may : D → Request → ShownReply → D → Type 0) 
   attended_twice : (p q r : HostedPool D K L) → PoolWasAttended may prefetches persists waits shares holds p q → PoolWasAttended may prefetches persists waits shares holds q r → PoolWasAttended may prefetches persists waits shares holds p r
   attended_twice p q r h g = record {
     name = g.name ∙ h.name;
-    kind = g.kind ∙ h.kind;
+    manner = g.manner ∙ h.manner;
     grace = g.grace ∙ h.grace;
-    attended = attended_more hosted (is_wide p.kind) may prefetches persists waits shares holds p.grace (is_wide q.kind) (ap is_wide h.kind) p.persister q.persister r.persister p.service q.service r.service
-        h.attended (subst (λ (o : Option ℕ). WasAttended hosted (is_wide q.kind) may prefetches persists waits shares holds o q.persister q.service r.persister r.service) h.grace g.attended);
+    attended = attended_more hosted p.manner may prefetches persists waits shares holds p.grace q.manner h.manner p.persister q.persister r.persister p.service q.service r.service
+        h.attended (subst (λ (o : Option ℕ). WasAttended hosted q.manner may prefetches persists waits shares holds o q.persister q.service r.persister r.service) h.grace g.attended);
   }
 
   -- nothing is done to any

@@ -3,6 +3,15 @@ use Rattle.std.proofs.Common.{◌≡◌, ℕ, List, [], ◌∷◌, ◌++◌, Res
 use Rattle.service_loop.proofs.Common.{Request, ShownReply}
 use Rattle.service_loop.specs.Rounds.{AllDone, Deed, WasServed}
 use Rattle.service_loop.specs.Rounds.Deed.{Waits}
+use base.Fml.{Lft}
+use contract.BorrowLft.{◌⊑◌, ⊑_meet, ⊑_refl, ⊑_static}
+
+-- a clock that is borrowed outlives what goes on for ever by it
+pub iterates_within : (κ lives : Lft) → κ ⊑ lives → κ ⊑ (lives ++ []) ++ ((κ ++ lives) ++ [])
+iterates_within κ lives within =
+    let one = ⊑_meet κ lives [] within (⊑_static κ) in
+    let two = ⊑_meet κ (κ ++ lives) [] (⊑_meet κ κ lives (⊑_refl κ) within) (⊑_static κ) in
+    ⊑_meet κ (lives ++ []) ((κ ++ lives) ++ []) one two
 
 -- what is so is so where a call went well
 pub always : {T E : Type 0} (result : Result T E) (P : Type 0) → P → OnOk result P

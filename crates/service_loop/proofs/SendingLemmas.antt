@@ -13,6 +13,7 @@ use Rattle.service_loop.specs.Taking.{SeatTakesNumber, TakingsKept}
 use Rattle.service_loop.specs.declared.gathering.Called.{Called}
 use Rattle.service_loop.specs.declared.gathering.Called.TheVariants as called
 use Rattle.service_loop.specs.declared.terms.Query.{Query}
+use Rattle.service_loop.specs.declared.manner.Manner.{Manner}
 
 stays_true : (b b' : Bool) → (b' ≡ false → b ≡ false) → b ≡ true → b' ≡ true
 stays_true b true whole is = refl
@@ -49,11 +50,11 @@ module _ {C : Type 0} (on : Seating C) where
     ],
   )
 
-  unsent_number : (wide ahead patient : Bool) (turns : List Turn) (x y : Option C) → SeatTakesNumber on wide ahead patient turns x y → SeatUnsent on x y
-  unsent_number wide ahead patient turns None None t = tt
-  unsent_number wide ahead patient turns None (Some d) t = t
-  unsent_number wide ahead patient turns (Some c) None t = t
-  unsent_number wide ahead patient turns (Some c) (Some d) t = (
+  unsent_number : (manner : Manner) (ahead patient : Bool) (turns : List Turn) (x y : Option C) → SeatTakesNumber on manner ahead patient turns x y → SeatUnsent on x y
+  unsent_number manner ahead patient turns None None t = tt
+  unsent_number manner ahead patient turns None (Some d) t = t
+  unsent_number manner ahead patient turns (Some c) None t = t
+  unsent_number manner ahead patient turns (Some c) (Some d) t = (
     t.2,
     elim t.0 as (λ _. (on.buffers c).broken ≡ true → (on.buffers d).broken ≡ true) [
       | inl same ↦ λ is. ap (λ q. q.broken) same.1 ∙ is
@@ -162,9 +163,9 @@ module _ {C : Type 0} (on : Seating C) where
     pub has_sent_turn : (k l : K) (w u : T) (xs zs : List (Option C)) → LoopIteration on may persists k w xs l u zs → HasSent on xs zs
     has_sent_turn k l w u xs zs t = has_sent xs t.between zs (λ i. unsent_takes (turns_of i t.log) (get_or xs i None) (get_or t.between i None) (t.taken.each i)) t.sent
 
-    pub has_sent_takings : (wide ahead patient : Bool) (k l : K) (w u : T) (xs zs : List (Option C)) → TakingsKept on wide ahead patient may persists k w xs l u zs → HasSent on xs zs
-    has_sent_takings wide ahead patient k l w u xs zs t =
-        has_sent xs t.between zs (λ i. unsent_number wide ahead patient (turns_of i t.log) (get_or xs i None) (get_or t.between i None) (t.taken.each i)) t.sent
+    pub has_sent_takings : (manner : Manner) (ahead patient : Bool) (k l : K) (w u : T) (xs zs : List (Option C)) → TakingsKept on manner ahead patient may persists k w xs l u zs → HasSent on xs zs
+    has_sent_takings manner ahead patient k l w u xs zs t =
+        has_sent xs t.between zs (λ i. unsent_number manner ahead patient (turns_of i t.log) (get_or xs i None) (get_or t.between i None) (t.taken.each i)) t.sent
 
     pub has_sent_prefetched : (prefetches : K → T → List ℕ → K → T → Type 0) (peek : C → Option Peek) (Due : C → Type 0) (kind : WorldKind) (keys : List ℕ) (k l : K) (w u : T) (xs zs : List (Option C)) (lines : List ℕ) →
         PrefetchedIteration on peek Due may prefetches persists kind keys k w xs lines l u zs → HasSent on xs zs

@@ -1,5 +1,5 @@
--- lines that a server answers by itself, among what waits of a connection: those that ask who holds numbers or the terms, and those that take a
--- number
+-- lines that a server answers by itself, among what waits of a connection: those that ask who holds numbers, what changes of that, or the terms, and
+-- those that take a number
 use Rattle.std.specs.Prelude.{◌≡◌, ◌⊎◌, ◌≤◌, ◌<◌, ℕ, ◌++◌, ◌||◌, not, Bool, List, [], length, take, drop, get_or, suc, true, false, Option, Some, is_some}
 use Rattle.std.specs.List.{list_all}
 use Rattle.text_lines.specs.Lines.{has_no_lf, rest_of, whole_lines}
@@ -44,7 +44,7 @@ pub record IsTakingOf (bytes : List ℕ) (identity count : ℕ) : Type 0 where
 
 -- so few bytes, none of them an LF, begin with the letter of one of the words
 abbrev pub IsPrefixOf : List ℕ → Type 0
-IsPrefixOf bytes = ((get_or bytes 0 0 ≡ 104) ⊎ (get_or bytes 0 0 ≡ 116)) × (length bytes ≤ QUERY_MAX) × (has_no_lf bytes ≡ true)
+IsPrefixOf bytes = ((get_or bytes 0 0 ≡ 104) ⊎ (get_or bytes 0 0 ≡ 116) ⊎ (get_or bytes 0 0 ≡ 119)) × (length bytes ≤ QUERY_MAX) × (has_no_lf bytes ≡ true)
 
 -- they begin with a line that asks or takes a number so, or may come to be such a line
 abbrev pub MayAsk : List ℕ → Type 0

@@ -19,6 +19,7 @@ use Rattle.service_loop.specs.Taking.{TakingsKept}
 use Rattle.service_loop.specs.declared.attended.Attended.{Attended}
 use Rattle.service_loop.specs.declared.attended.Ending.{Ending}
 use Rattle.service_loop.specs.declared.attended.TheConstants.{NOBODY}
+use Rattle.service_loop.specs.declared.manner.Manner.{Manner}
 
 -- one thing that is done: the persister goes on by itself; the answers to these lines are prefetched; connections of these numbers take the turns of a
 -- log, or numbers by its turns; the answers to these lines are lost; or, at a tick, it is heard which connections ended and whether an answer was lost, and then stays are ended
@@ -59,7 +60,7 @@ AreHeard (Loses kind lines ∷ deeds) acts = (lost rest : List Act) × (acts ≡
 AreHeard (Ends passed tick lost endings ∷ deeds) acts =
     (left rest : List Act) × (acts ≡ acts_of_endings tick lost endings ++ (left ++ rest)) × AreLeft left × AreHeard deeds rest
 
-module _ {C D K : Type 0} (on : Seating C) (wide : Bool) (may : D → Request → ShownReply → D → Type 0) (prefetches : K → D → List ℕ → K → D → Type 0) (persists waits : K → D → K → D → Type 0) (shares : K → Bool) (holds : K → D → SlotsState ℕ) (grace : Option ℕ) where
+module _ {C D K : Type 0} (on : Seating C) (manner : Manner) (may : D → Request → ShownReply → D → Type 0) (prefetches : K → D → List ℕ → K → D → Type 0) (persists waits : K → D → K → D → Type 0) (shares : K → Bool) (holds : K → D → SlotsState ℕ) (grace : Option ℕ) where
   -- The connections at some seats took the turns of this log, each those to the lines that it sent; what the service tells of them was kept; and only then
   -- were replies sent, to each connection of those that wait for it. What the turns say of stays was heard of the number of the connection that took them,
   -- which no other has
@@ -78,7 +79,7 @@ module _ {C D K : Type 0} (on : Seating C) (wide : Bool) (may : D → Request �
     pub patient : Bool
     pub seats : List (Option C)
     pub seats' : List (Option C)
-    pub taking : TakingsKept on wide ahead patient may persists k w.service seats l u.service seats'
+    pub taking : TakingsKept on manner ahead patient may persists k w.service seats l u.service seats'
     pub log_is : taking.log ≡ log
     pub next : ℕ
     pub numbered : AreNumbered numbers next
@@ -89,7 +90,7 @@ module _ {C D K : Type 0} (on : Seating C) (wide : Bool) (may : D → Request �
     pub heard : Attended D
     pub hears : Hears acts w heard
     pub same : heard.service ≡ w.service
-    pub ended : EndsAtTick (EndsDue wide may persists waits shares holds) grace passed tick k heard l u
+    pub ended : EndsAtTick (EndsDue manner.wide may persists waits shares holds) grace passed tick k heard l u
 
   -- one thing leads a persister and an attended service from there to here
   abbrev pub AttendedBy : K → Attended D → AttendedDeed → K → Attended D → Type 0

@@ -15,6 +15,7 @@ use Rattle.text_player.specs.Turns.Turn.{Answered, Reported, Ended, Misread}
 use Rattle.model_pool.specs.declared.stays.kept_stay.KeptStay.{KeptStay}
 use Rattle.model_pool.specs.stays.Stays.{Act, after_act, after_acts}
 use Rattle.model_pool.specs.stays.Stays.Act.{Entered, Left, Ended as KeeperEnded, Quit}
+use Rattle.service_loop.specs.Changes.{change_by, GoesOnBy}
 use Rattle.service_loop.specs.declared.attended.Attended.{Attended}
 use Rattle.service_loop.specs.declared.attended.Ending.{Ending}
 use Rattle.service_loop.specs.declared.attended.TheConstants.{NOBODY}
@@ -70,9 +71,9 @@ pub record Hears {D : Type 0} (acts : List Act) (w u : Attended D) : Type 0 wher
   pub keeps_is : u.keeps ≡ w.keeps
   pub stays_are : u.lacks ≡ false → (w.lacks ≡ false) × (u.stays ≡ (if w.keeps then after_acts w.stays acts else w.stays))
 
--- The service answers as it may, and what that says of stays is noted
+-- The service answers as it may, and what that says of stays is noted, and what it changes of who holds numbers
 abbrev pub AttendedMay : {D : Type 0} → (D → Request → ShownReply → D → Type 0) → Attended D → Request → ShownReply → Attended D → Type 0
-AttendedMay may w q r u = may w.service q r u.service × Hears (heard_of w.speaker q r) w u × (u.speaker ≡ w.speaker)
+AttendedMay may w q r u = may w.service q r u.service × Hears (heard_of w.speaker q r) w u × (u.speaker ≡ w.speaker) × GoesOnBy (change_by q r) w.changes u.changes
 
 -- a connection ended at a tick
 abbrev pub act_of_ending : ℕ → Ending → Act

@@ -1,6 +1,5 @@
 -- what a server does to several pools, each with a service, a persister and connections of its own
 use Rattle.std.specs.Prelude.{◌≡◌, ℕ, Bool, List, [], ◌∷◌}
-use Rattle.model_asked.specs.Config.{is_wide}
 use Rattle.model_asked.specs.Replies.{ShownReply}
 use Rattle.model_asked.specs.Requests.{Request}
 use Rattle.model_pool.specs.slots.SlotsState.{SlotsState}
@@ -18,7 +17,7 @@ EachTo R (x ∷ xs) (y ∷ ys) = R x y × EachTo R xs ys
 -- a pool has the name, the world and the grace time that it had, and nothing was done to its service, its persister and the table of stays
 pub record IsSamePool {D K L : Type 0} (p q : HostedPool D K L) : Type 0 where
   pub name : q.name ≡ p.name
-  pub kind : q.kind ≡ p.kind
+  pub manner : q.manner ≡ p.manner
   pub grace : q.grace ≡ p.grace
   pub persister : q.persister ≡ p.persister
   pub service : q.service ≡ p.service
@@ -32,9 +31,9 @@ module _ {D K L : Type 0} (may : D → Request → ShownReply → D → Type 0) 
   -- of this pool alone does (`host`)
   pub record PoolWasAttended (p q : HostedPool D K L) : Type 0 where
     pub name : q.name ≡ p.name
-    pub kind : q.kind ≡ p.kind
+    pub manner : q.manner ≡ p.manner
     pub grace : q.grace ≡ p.grace
-    pub attended : WasAttended hosted (is_wide p.kind) may prefetches persists waits shares holds p.grace p.persister p.service q.persister q.service
+    pub attended : WasAttended hosted p.manner may prefetches persists waits shares holds p.grace p.persister p.service q.persister q.service
 
   -- and so was each
   abbrev pub PoolsWereAttended : List (HostedPool D K L) → List (HostedPool D K L) → Type 0

@@ -1,6 +1,6 @@
 -- numbers that a server takes for its connections: `take ID` is `enter ID`, and then in the wide world one `seek ID`, elsewhere `probe ID` as often
 -- as it takes
-use Rattle.std.specs.Prelude.{◌≡◌, ◌⊎◌, ◌+◌, ℕ, ltb, replicate, Bool, true, false, List, [], ◌∷◌, ◌++◌, length, map, drop, get_or, Option, Some, None}
+use Rattle.std.specs.Prelude.{◌≡◌, ◌⊎◌, ◌+◌, ◌&&◌, ◌||◌, ℕ, ltb, replicate, Bool, true, false, List, [], ◌∷◌, ◌++◌, length, map, drop, get_or, Option, Some, None}
 use Rattle.model_asked.specs.declared.event.Event.{Event}
 use Rattle.model_asked.specs.declared.event.Event.TheVariants as event
 use Rattle.model_asked.specs.declared.reply.Reply.{Reply}
@@ -8,7 +8,6 @@ use Rattle.model_asked.specs.declared.reply.Reply.TheVariants as reply
 use Rattle.model_steps.specs.declared.refusal.Refusal.TheVariants as refusal
 use Rattle.model_asked.specs.Replies.{ShownReply}
 use Rattle.model_asked.specs.Requests.{Request}
-use Rattle.text_lines.specs.Replies.{reply_text}
 use Rattle.text_player.specs.Runs.{Runs}
 use Rattle.text_player.specs.Shared.{TurnLog, turns_of, all_turns}
 use Rattle.text_player.specs.Turns.{Turn}
@@ -18,7 +17,9 @@ use Rattle.service_loop.specs.BuffersState.{BuffersState}
 use Rattle.service_loop.specs.Reported.{IsAmong}
 use Rattle.service_loop.specs.Searching.{most_said, searched, searching}
 use Rattle.service_loop.specs.Seats.{RepliesSent, Seating}
+use Rattle.service_loop.specs.Tokens.{AsksToken, is_got, taken_text, token_events}
 use Rattle.service_loop.specs.Waiting.{first_wait, given_up, taken_for}
+use Rattle.service_loop.specs.declared.manner.Manner.{Manner}
 
 -- behind this reply a number is searched for: `enter` was accepted, or a `probe` missed
 abbrev pub wants_search : {V : Type 0} → Reply V → Bool
@@ -56,24 +57,36 @@ abbrev pub SaysTaking : Bool → Bool → ℕ → List Turn → ShownReply → T
 SaysTaking wide false id turns answer = IsTaking wide id turns answer
 SaysTaking wide true id turns answer = IsTakingAhead wide id turns answer
 
+-- the same, and then a token is asked for, where tokens are given and the answer is a number, or the answers were prefetched
+pub record TakesWith (manner : Manner) (ahead : Bool) (id : ℕ) (turns : List Turn) (answer : ShownReply) (token : Option ShownReply) : Type 0 where
+  pub searches : List Turn
+  pub says : SaysTaking manner.wide ahead id searches answer
+  pub raises : List Turn
+  pub asks : AsksToken (manner.tokens && (ahead || is_got answer)) (is_got answer) id raises token
+  pub turns_are : turns ≡ searches ++ raises
+
 -- the events of that, where the answers are prefetched: `seek` or `probe` as often as it may be said; none, where no number is taken
-abbrev pub events_for : Bool → Option ℕ → List Event
-events_for wide None = []
-events_for wide (Some id) = event.Enter id ∷ replicate (most_said wide) (searching wide id)
+abbrev pub search_events : Bool → ℕ → List Event
+search_events wide id = event.Enter id ∷ replicate (most_said wide) (searching wide id)
+
+abbrev pub events_for : Manner → Option ℕ → List Event
+events_for manner None = []
+events_for manner (Some id) = search_events manner.wide id ++ token_events manner.tokens id
 
 -- The line that waits first takes a number: it is taken, and the answer waits behind what waited to be sent. The transcript, and whatever else waits, is
 -- as it was, but where it is at fault
-pub record TakesNumber (wide ahead : Bool) (turns : List Turn) (s s' : BuffersState) : Type 0 where
+pub record TakesNumber (manner : Manner) (ahead : Bool) (turns : List Turn) (s s' : BuffersState) : Type 0 where
   pub identity : ℕ
   pub count : ℕ
   pub asks : IsTakingOf s.inbox identity count
   pub answer : ShownReply
-  pub says : SaysTaking wide ahead identity turns answer
+  pub token : Option ShownReply
+  pub says : TakesWith manner ahead identity turns answer token
   pub responder_is : s'.responder ≡ s.responder
   pub ended_is : s'.ended ≡ s.ended
   pub in_line_is : s'.in_line ≡ s.in_line
   pub inbox_is : s'.inbox ≡ drop count s.inbox
-  pub kept : s'.broken ≡ false → (s'.outbox ≡ s.outbox ++ reply_text answer) × (s.broken ≡ false)
+  pub kept : s'.broken ≡ false → (s'.outbox ≡ s.outbox ++ taken_text answer token) × (s.broken ≡ false)
 
 -- it is refused one since as many compete as may
 abbrev pub is_crowded : {V : Type 0} → Reply V → Bool
@@ -81,20 +94,21 @@ is_crowded (reply.Refused refusal.Crowded) = true
 is_crowded _ = false
 
 -- the line asks for a number and waits for one, those who are called are patient, all are held, and it waits on: nothing is answered, and nothing changes
-pub record WaitsOn (wide ahead patient : Bool) (turns : List Turn) (s s' : BuffersState) : Type 0 where
+pub record WaitsOn (manner : Manner) (ahead patient : Bool) (turns : List Turn) (s s' : BuffersState) : Type 0 where
   pub identity : ℕ
   pub count : ℕ
   pub asks : IsTakingOf s.inbox identity count
   pub may_wait : patient ≡ true
   pub waits : ltb 0 (first_wait s.inbox) ≡ true
   pub answer : ShownReply
-  pub says : SaysTaking wide ahead identity turns answer
+  pub token : Option ShownReply
+  pub says : TakesWith manner ahead identity turns answer token
   pub crowded : is_crowded answer ≡ true
   pub same : s' ≡ s
 
 -- it does, or waits on, or nothing is said and nothing changes
-abbrev pub MayTakeNumber : Bool → Bool → Bool → List Turn → BuffersState → BuffersState → Type 0
-MayTakeNumber wide ahead patient turns s s' = ((turns ≡ []) × (s' ≡ s)) ⊎ TakesNumber wide ahead turns s s' ⊎ WaitsOn wide ahead patient turns s s'
+abbrev pub MayTakeNumber : Manner → Bool → Bool → List Turn → BuffersState → BuffersState → Type 0
+MayTakeNumber manner ahead patient turns s s' = ((turns ≡ []) × (s' ≡ s)) ⊎ TakesNumber manner ahead turns s s' ⊎ WaitsOn manner ahead patient turns s s'
 
 module _ {C : Type 0} (on : Seating C) where
   -- for which identity the connection at a seat takes a number
@@ -103,9 +117,9 @@ module _ {C : Type 0} (on : Seating C) where
   seat_taken_for (Some c) = taken_for (on.buffers c)
 
   -- the events by which the connections at these seats take numbers, one after another
-  abbrev pub events_of : Bool → List (Option C) → List ℕ → List Event
-  events_of wide seats [] = []
-  events_of wide seats (key ∷ keys) = events_for wide (seat_taken_for (get_or seats key None)) ++ events_of wide seats keys
+  abbrev pub events_of : Manner → List (Option C) → List ℕ → List Event
+  events_of manner seats [] = []
+  events_of manner seats (key ∷ keys) = events_for manner (seat_taken_for (get_or seats key None)) ++ events_of manner seats keys
 
   -- a connection that takes a number is at fault, and nothing else changes; an empty seat stays empty
   abbrev pub SeatGivenUp : Option C → Option C → Type 0
@@ -119,13 +133,13 @@ module _ {C : Type 0} (on : Seating C) where
     pub each : (i : ℕ) → IsAmong i keys → SeatGivenUp (get_or seats i None) (get_or seats' i None)
     pub others : (i : ℕ) → (IsAmong i keys → ⊥) → get_or seats' i None ≡ get_or seats i None
 
-module _ {C : Type 0} (on : Seating C) (wide ahead patient : Bool) where
+module _ {C : Type 0} (on : Seating C) (manner : Manner) (ahead patient : Bool) where
   -- by these turns a connection may take a number, and nothing is read or sent; an empty seat stays empty
   abbrev pub SeatTakesNumber : List Turn → Option C → Option C → Type 0
   SeatTakesNumber turns None None = turns ≡ []
   SeatTakesNumber turns None (Some c) = ⊥
   SeatTakesNumber turns (Some c) None = ⊥
-  SeatTakesNumber turns (Some c) (Some d) = MayTakeNumber wide ahead patient turns (on.buffers c) (on.buffers d) × (on.left d ≡ on.left c) × (on.gone d ≡ on.gone c)
+  SeatTakesNumber turns (Some c) (Some d) = MayTakeNumber manner ahead patient turns (on.buffers c) (on.buffers d) × (on.left d ≡ on.left c) × (on.gone d ≡ on.gone c)
 
   module _ {T : Type 0} (may : T → Request → ShownReply → T → Type 0) where
     -- the turns of all connections, in the one order of this log, lead the service from w to u, and those of each seat are what its connection took

@@ -39,7 +39,7 @@ first_wait bytes = seconds_waited (first_of take_line (whole_lines bytes))
 
 -- these bytes begin with the first letter of a line that the server answers by itself
 abbrev pub begins : List ℕ → Bool
-begins bytes = (get_or bytes 0 0 == 104) || (get_or bytes 0 0 == 116)
+begins bytes = (get_or bytes 0 0 == 104) || ((get_or bytes 0 0 == 116) || (get_or bytes 0 0 == 119))
 
 -- they are the beginning of a line that may be one
 abbrev pub is_prefix_of : List ℕ → Bool

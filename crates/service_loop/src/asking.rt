@@ -23,6 +23,9 @@ const ASKS: u8 = b'h';
 /// What each line that takes a number begins with, and the one that asks for the terms, and no command.
 const TAKES: u8 = b't';
 
+/// What each line that asks for changes begins with. It has the letter too that no command has.
+const WATCHES: u8 = b'w';
+
 /// A letter of each line that takes a number, and of no command.
 const INSIDE: u8 = b'k';
 
@@ -82,10 +85,10 @@ pub(crate) fn is_own(line: &[u8]) -> bool
 // Whether the first of these bytes is that of a line that the server answers by itself.
 fn begins(bytes: &[u8]) -> bool
     ensures exact { result ≡ begins bytes.now }
-    ensures letter { result ≡ true → (get_or bytes.now 0 0 ≡ 104) ⊎ (get_or bytes.now 0 0 ≡ 116) }
+    ensures letter { result ≡ true → (get_or bytes.now 0 0 ≡ 104) ⊎ (get_or bytes.now 0 0 ≡ 116) ⊎ (get_or bytes.now 0 0 ≡ 119) }
 {
     match bytes {
-        [first, ..] => *first == ASKS || *first == TAKES,
+        [first, ..] => *first == ASKS || *first == TAKES || *first == WATCHES,
         [] => false,
     }
 }

@@ -9,9 +9,11 @@ ghost use Rattle.service_loop.specs.Losing.{lost_act};
 ghost use Rattle.service_loop.specs.AttendingProofs.{attended_answers};
 
 use crate::audit::Audit;
+use crate::feed::Feed;
 use model_asked::{Event, Reply};
 use model_pool::stays::Stays;
 use model_steps::{Refusal, View};
+use std::alloc::Global;
 use text_player::Service;
 
 /// The number of no connection. It keeps a stay that may have begun, though no connection may be answered so.
@@ -41,6 +43,8 @@ pub struct Attended<D> {
     pub lacks: bool,
     /// What is told of numbers and refusals.
     pub audit: Audit,
+    /// What changes of who holds numbers.
+    pub changes: Feed,
 }
 
 // Whether who said `enter` keeps the stay, by the reply to it.
@@ -59,8 +63,9 @@ fn gives_back(reply: &Reply<()>) -> bool
 
 impl<D> Attended<D> {
     /// A service with these stays. Where it does not keep them, they stay as they are.
-    pub fn new(service: D, stays: Stays, keeps: bool, audit: Audit) -> Attended<D>
-        ensures { (result.service ≡ service) × (result.stays ≡ stays) × (result.keeps ≡ keeps) × (result.lacks ≡ false) }
+    pub fn new(alloc: Global, service: D, stays: Stays, keeps: bool, audit: Audit) -> Attended<D>
+        ensures opened { (result.service ≡ service) × (result.stays ≡ stays) × (result.keeps ≡ keeps) × (result.lacks ≡ false) }
+        ensures changes { result.changes ≡ record { first = 0; changes = [] } }
     {
         Attended {
             service,
@@ -69,6 +74,7 @@ impl<D> Attended<D> {
             speaker: 0,
             lacks: false,
             audit,
+            changes: Feed::new(alloc),
         }
     }
 
@@ -124,7 +130,7 @@ impl<D> Attended<D> {
     /// The stay of this identity has ended.
     pub fn forget(&mut self, identity: u64)
         ensures hears { Hears (Left identity ∷ []) self.old self.new }
-        ensures same { (self.new.service ≡ self.old.service) × (self.new.speaker ≡ self.old.speaker) }
+        ensures same { (self.new.service ≡ self.old.service) × (self.new.speaker ≡ self.old.speaker) × (self.new.changes ≡ self.old.changes) }
     {
         if self.keeps {
             self.stays.left(identity);
@@ -135,7 +141,7 @@ impl<D> Attended<D> {
     fn note_entered(&mut self, identity: u64)
         requires { self.old.keeps ≡ true }
         ensures hears { Hears (Entered identity self.old.speaker ∷ []) self.old self.new }
-        ensures same { (self.new.service ≡ self.old.service) × (self.new.speaker ≡ self.old.speaker) }
+        ensures same { (self.new.service ≡ self.old.service) × (self.new.speaker ≡ self.old.speaker) × (self.new.changes ≡ self.old.changes) }
     {
         if self.stays.entered(identity, self.speaker).is_err() {
             self.lacks = true;
@@ -158,7 +164,7 @@ impl<D> Attended<D> {
     // Notes what an event that was answered by this reply says of stays.
     fn hear(&mut self, event: Event, reply: &Reply<()>)
         ensures hears { Hears (heard self.old.speaker event reply.now) self.old self.new }
-        ensures same { (self.new.service ≡ self.old.service) × (self.new.speaker ≡ self.old.speaker) }
+        ensures same { (self.new.service ≡ self.old.service) × (self.new.speaker ≡ self.old.speaker) × (self.new.changes ≡ self.old.changes) }
     {
         if !self.keeps {
             return;
@@ -184,6 +190,7 @@ fn apply_and_hear<R, D: Service<R>>(
 {
     let reply = attended.service.apply(rt, event, view);
     attended.audit.note(attended.speaker, event, &reply);
+    attended.changes.note(event, &reply);
     attended.hear(event, &reply);
     reply
 }
@@ -201,6 +208,7 @@ impl<R, D: Service<R>> Service<R> for Attended<D> {
         if !self.keeps {
             let reply = self.service.apply(rt, event, view);
             self.audit.note(self.speaker, event, &reply);
+            self.changes.note(event, &reply);
             return reply;
         }
         apply_and_hear(self, rt, event, view)

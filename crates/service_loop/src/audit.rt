@@ -1,6 +1,7 @@
 //! What is counted of refusals and of numbers that were given back, and told of them in a log.
 
-use crate::audit_lines::{AuditLines, identity_of, refused_act};
+use crate::audit_lines::{AuditLines, refused_act};
+use crate::change::identity_of;
 use model_asked::{Event, Reply};
 use model_steps::Refusal;
 use service_watch::{REFUSALS, Releases};

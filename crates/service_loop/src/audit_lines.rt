@@ -1,5 +1,6 @@
 //! The lines of a log of who took numbers, who gave them back, and who was refused.
 
+use crate::change::identity_of;
 use model_asked::Event;
 use model_steps::Refusal;
 use std::alloc::{AllocError, Global};
@@ -40,21 +41,6 @@ fn seconds<R: Clock>(rt: &R) -> u64 {
             Err(_) => 0,
         },
         Err(_) => 0,
-    }
-}
-
-/// Whose event it is; of `widen` the size.
-pub(crate) fn identity_of(event: Event) -> u64 {
-    match event {
-        Event::Begin(id)
-        | Event::Step(id)
-        | Event::Enter(id)
-        | Event::Probe(id)
-        | Event::Seek(id)
-        | Event::Leave(id)
-        | Event::Put(id, _)
-        | Event::Get(id)
-        | Event::Widen(id) => id,
     }
 }
 

@@ -59,8 +59,8 @@ impl<A: Allocator> Model for Buffers<A> {
     ghost invariant = { λ w. (length w.inbox.items ≤ 65536) × (length w.outbox.items ≤ 65536) };
 }
 
-// Takes away the first bytes. Where none is left, their room goes back, and nothing is moved.
-fn drop_front<A: Allocator>(bytes: &mut Vec<u8, A>, count: usize)
+/// Takes away the first bytes. Where none is left, their room goes back, and nothing is moved.
+pub(crate) fn drop_front<A: Allocator>(bytes: &mut Vec<u8, A>, count: usize)
     requires { count ≤ length bytes.old.items }
     ensures { bytes.new.items ≡ drop count bytes.old.items }
 {

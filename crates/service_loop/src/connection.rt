@@ -25,18 +25,21 @@ ghost use Rattle.service_loop.specs.declared.shared.TheConstants.{READ_ROOM};
 ghost use Rattle.service_loop.specs.declared.buffers.TheConstants.{UNSENT_ROOM, MOST_LINES};
 
 use crate::buffers::{Buffers, MOST_LINES, UNSENT_ROOM};
+use crate::feed::Feed;
+use crate::first_point::FirstPoint;
+use crate::manner::Manner;
 use crate::peek::{Limits, Peek};
 use crate::persist::Persist;
 use crate::shared::{READ_ROOM, SharedBuffers};
 use crate::stream::Stream;
 use crate::take_line::TakeLine;
-use crate::taking::{is_crowded, say_taking};
+use crate::taking::{is_crowded, print_taken, take_with_token};
 use crate::terms::{Query, Terms, put_answer};
+use crate::watch_line::{WatchQuery, end_told};
 use model_asked::WorldKind;
 use std::alloc::Allocator;
 use std::io::{self, ErrorKind};
 use text_lines::held::QUERY_MAX;
-use text_lines::print_reply;
 use text_player::{Service, TURN_ROOM};
 
 /// So many bytes are read at most, behind the beginning of a line that may ask who holds numbers, or take one.
@@ -485,17 +488,19 @@ impl<S: Stream, A: Allocator> Connection<S, A> {
         }
     }
 
-    /// Answers the line that waits first, where that asks who holds numbers or the terms and there is room. Who holds numbers the persister tells:
-    /// where the service prefetches its answers, only if the line was looked at.
+    /// Answers the line that waits first, where that asks who holds numbers, what changes of that, or the terms, and there is room. Who holds numbers the
+    /// persister tells: where the service prefetches its answers, only if the line was looked at. Changes are told once there are any.
     pub fn answer<D, K: Persist<D>, B: Allocator>(
         &mut self,
         service: &D,
         persister: &K,
         terms: Terms,
+        feed: &Feed,
+        first: &FirstPoint,
         shared: &mut SharedBuffers<B>,
     )
         requires room { AreShared shared.old }
-        ensures answers { MayAnswer (query_text terms (K.holds persister.now service.now)) self.old.buffers self.new.buffers }
+        ensures answers { MayAnswer (query_text terms (K.holds persister.now service.now) first.now feed.now) self.old.buffers self.new.buffers }
         ensures stream { self.new.stream ≡ self.old.stream }
         ensures stage { self.new.stage ≡ ConnectionStage.Taken }
         ensures room { AreShared shared.new }
@@ -505,18 +510,36 @@ impl<S: Stream, A: Allocator> Connection<S, A> {
             return;
         }
         if let Some((query, count)) = self.buffers.query() {
-            if self.may_ask(query) {
-                put_answer(service, persister, terms, query, &mut shared.replies);
+            if self.may_ask(query, end_told(feed, first)) {
+                put_answer(
+                    service,
+                    persister,
+                    terms,
+                    feed,
+                    first,
+                    query,
+                    &mut shared.replies,
+                );
                 self.buffers.answer(count, &mut shared.replies);
             }
         }
     }
 
-    // Whether a line that asks this may be answered in this turn: who holds numbers only where all is known that was kept before.
-    fn may_ask(&self, query: Query) -> bool {
+    // Whether a line that asks this may be answered in this turn: who holds numbers only where all is known that was kept before, and changes only where
+    // there are any from that point on. They end at this one.
+    fn may_ask(&self, query: Query, end: u64) -> bool {
         match (self.peek, query) {
             (Some(peek), Query::Holders(_)) => peek.holds,
+            (_, Query::Changes(WatchQuery::From(point))) => self.hung || point != end,
             _ => true,
+        }
+    }
+
+    /// Whether the line that waits first asks for changes from their end on, so that it is answered once there are any.
+    pub fn watches(&self, end: u64) -> bool {
+        match self.buffers.query() {
+            Some((Query::Changes(query), _)) => !self.may_ask(Query::Changes(query), end),
+            _ => false,
         }
     }
 
@@ -553,20 +576,20 @@ impl<S: Stream, A: Allocator> Connection<S, A> {
     }
 
     /// Takes a number, where the line that waits first takes one and there is room for the answer: by events of the service, one after another, of
-    /// which the last reply is the answer (`say_taking`). Where those who are called are patient, one that waits for seconds and is refused since all are
-    /// held waits on.
+    /// which the last reply is the answer, and where tokens are given the token stands behind it (`take_with_token`). Where those who are called are patient,
+    /// one that waits for seconds and is refused since all are held waits on.
     pub fn take_number<R, D: Service<R>, B: Allocator>(
         &mut self,
         rt: &R,
         service: &mut D,
         shared: &mut SharedBuffers<B>,
-        wide: bool,
+        manner: Manner,
         ahead: bool,
     )
         requires knows { (q : Request) → D.knows q ≡ true }
         requires room { AreShared shared.old }
         ensures takes { (turns : List Turn) × Runs D.may service.old turns service.new ×
-            MayTakeNumber wide ahead shared.old.patient turns self.old.buffers self.new.buffers }
+            MayTakeNumber manner ahead shared.old.patient turns self.old.buffers self.new.buffers }
         ensures stream { self.new.stream ≡ self.old.stream }
         ensures stage { self.new.stage ≡ ConnectionStage.Taken }
         ensures room { AreShared shared.new }
@@ -577,11 +600,11 @@ impl<S: Stream, A: Allocator> Connection<S, A> {
             return;
         }
         if let Some((identity, count)) = self.buffers.taking() {
-            let reply = say_taking(rt, service, &mut shared.view, identity, wide, ahead);
-            if shared.patient && 0 < self.buffers.wait() && is_crowded(&reply) {
+            let taken = take_with_token(rt, service, &mut shared.view, identity, manner, ahead);
+            if shared.patient && 0 < self.buffers.wait() && is_crowded(&taken.answer) {
                 return;
             }
-            print_reply(reply, &shared.view, &mut shared.replies);
+            print_taken(taken, &shared.view, &mut shared.replies);
             self.buffers.answer(count, &mut shared.replies);
         }
     }

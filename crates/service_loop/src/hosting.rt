@@ -1,9 +1,10 @@
 //! A server in one thread, by the readiness of its sockets.
 
 ghost use Rattle.std.specs.Prelude.{◌≡◌, ◌⊎◌, ◌<◌, ◌≤◌, ◌+◌, ℕ, Bool, List, Option, true, not, take, IfOk, OnOk};
-ghost use Rattle.model_asked.specs.Config.{is_wide};
 ghost use Rattle.model_asked.specs.Requests.{Request};
 ghost use Rattle.service_watch.specs.durations.Histogram.{capped};
+ghost use Rattle.service_loop.specs.Manners.{manner_of};
+ghost use Rattle.service_loop.specs.declared.manner.Manner.{Manner};
 ghost use Rattle.service_loop.specs.Attendance.{WasAttended};
 ghost use Rattle.service_loop.specs.Attending.{Hears, acts_of_endings};
 ghost use Rattle.service_loop.specs.Keepers.{EndsAtTick, HearsAndEnds};
@@ -20,8 +21,11 @@ use crate::audit_log::AuditLog;
 use crate::connection::Connection;
 use crate::connections::ConnectionTable;
 use crate::doors::{Accepted, Doors};
+use crate::feed::Feed;
+use crate::first_point::FirstPoint;
 use crate::gathering::{Batch, Called, iterate_prefetched};
 use crate::host_fault::HostFault;
+use crate::manner::Manner;
 use crate::persist::Persist;
 use crate::releasing::end_due;
 use crate::shared::SharedBuffers;
@@ -31,6 +35,7 @@ use crate::taking::{prefetch_takings, serve_takings};
 use crate::teller::Teller;
 use crate::terms::Terms;
 use crate::turns::iterate;
+use crate::watch_line::end_told;
 use crate::watching::{LoopNumbers, Watch};
 use mio::event::Event;
 use mio::net::TcpListener;
@@ -73,6 +78,10 @@ const LAST_ROUNDS: u64 = 11;
 pub struct HostOptions {
     /// The world whose commands clients speak.
     pub kind: WorldKind,
+    /// Whether a client that takes a number is told a token.
+    pub tokens: bool,
+    /// Whether clients own their identities by secrets.
+    pub owners: bool,
     /// How many clients are served at once; others wait to be accepted.
     pub clients: usize,
     /// After how many seconds a client that says nothing is closed; never, where it is not given.
@@ -86,6 +95,16 @@ pub struct HostOptions {
 }
 
 impl HostOptions {
+    // How numbers are taken.
+    pub(crate) fn manner(&self) -> Manner
+        ensures { result ≡ manner_of self.now }
+    {
+        Manner {
+            wide: self.kind.is_wide(),
+            tokens: self.tokens,
+        }
+    }
+
     // What a client is told that asks for the terms.
     fn terms(&self) -> Terms
         ensures { (result.grace ≡ self.now.grace) × (result.idle ≡ self.now.idle) }
@@ -115,6 +134,8 @@ pub(crate) struct Hosting {
     connections: ConnectionTable,
     /// Those who wait for numbers.
     queue: TakeQueue,
+    /// The point before the first change of who holds numbers.
+    first: FirstPoint,
     start: Instant,
     /// The second since the start that is under way.
     second: u64,
@@ -167,6 +188,7 @@ impl Drop for Hosting {
             doors: _,
             connections: _,
             queue: _,
+            first: _,
             start: _,
             second: _,
             tick: _,
@@ -195,7 +217,7 @@ impl Drop for Hosting {
 
 /// Serves clients of one service, each its own transcript, in one thread.
 ///
-/// Lines `listening ADDRESS:PORT`, `listening PATH` and `metrics ADDRESS:PORT` are written first, of what is listened on. Each turn takes what
+/// Lines `listening ADDRESS:PORT`, `listening PATH`, `admin PATH` and `metrics ADDRESS:PORT` are written first, of what is listened on. Each turn takes what
 /// clients have sent, keeps what the service tells of it, and only then sends replies (`iterate`); where the service prefetches its answers, what
 /// was read goes to the persister before (`iterate_prefetched`), which is called once a second too. It ends at the end of standard input where
 /// that is a pipe, or else never: then replies are sent, as far as clients take them within a second, and a line `served N` is written. Those who
@@ -224,18 +246,18 @@ where
     R: Net + Wait + Clock,
     requires { (q : Request) → D.knows q ≡ true }
     ensures served { OnOk result (WasServed D.may K.prefetches K.persists K.waits persister.old service.old.service persister.new service.new.service) }
-    ensures attended { OnOk result (WasAttended hosted (is_wide options.kind) D.may K.prefetches K.persists K.waits K.shares K.holds options.grace
+    ensures attended { OnOk result (WasAttended hosted (manner_of options) D.may K.prefetches K.persists K.waits K.shares K.holds options.grace
         persister.old service.old persister.new service.new) }
 {
     let mut shared = SharedBuffers::new(alloc)?;
     let mut hosting = Hosting::new(rt, alloc, options, listeners, persister.most_prefetched())?;
     hosting.tell_listening(output)?;
     hosting.tell_trouble(persister.trouble(), errors);
-    let wide = options.kind.is_wide();
+    let manner = options.manner();
     for _ in rt.forever() {
         hosting.go_round(
             rt,
-            wide,
+            manner,
             options.grace,
             service,
             persister,
@@ -287,10 +309,11 @@ fn enter_at<R: Net>(rt: &R, alloc: Global, listeners: Listeners) -> io::Result<E
     let Listeners {
         network,
         local,
+        admin,
         metrics,
     } = listeners;
     let poll = new_poll(rt, STOPPER)?;
-    let doors = Doors::new(&poll, network, local)?;
+    let doors = Doors::new(&poll, network, local, admin)?;
     let watch = watch_at(alloc, &poll, metrics)?;
     Ok(Entrance {
         poll,
@@ -303,13 +326,21 @@ fn enter_at<R: Net>(rt: &R, alloc: Global, listeners: Listeners) -> io::Result<E
 // Waits for the connections that others let in.
 fn enter_within<R: Net>(rt: &R) -> io::Result<Entrance> {
     let poll = Poll::new(rt)?;
-    let doors = Doors::new(&poll, None, None)?;
+    let doors = Doors::new(&poll, None, None, None)?;
     Ok(Entrance {
         poll,
         doors,
         watch: None,
         within: true,
     })
+}
+
+// What changes of who holds numbers: as the persister tells, where other servers share the service.
+fn changes_of<'a, D, K: Persist<D>>(service: &'a Attended<D>, persister: &'a K) -> &'a Feed {
+    match persister.changes() {
+        Some(changes) => changes,
+        None => &service.changes,
+    }
 }
 
 // What goes to the persister before a turn, where the service prefetches its answers.
@@ -383,6 +414,7 @@ impl Hosting {
             doors,
             connections: ConnectionTable::new(alloc, options.clients)?,
             queue: TakeQueue::new(alloc),
+            first: FirstPoint::at_start(rt),
             start: Instant::now(rt)?,
             second: 0,
             tick: 0,
@@ -441,7 +473,7 @@ impl Hosting {
     pub(crate) fn go_round<R: Clock, D: Service<R>, K: Persist<D>, L: AuditLog, E: Write>(
         &mut self,
         rt: &R,
-        wide: bool,
+        manner: Manner,
         grace: Option<u64>,
         service: &mut Attended<D>,
         persister: &mut K,
@@ -452,14 +484,14 @@ impl Hosting {
         requires knows { (q : Request) → D.knows q ≡ true }
         requires room { AreShared shared.old }
         ensures room { AreShared shared.new }
-        ensures attended { OnOk result (WasAttended hosted wide D.may K.prefetches K.persists K.waits K.shares K.holds grace
+        ensures attended { OnOk result (WasAttended hosted manner D.may K.prefetches K.persists K.waits K.shares K.holds grace
             persister.old service.old persister.new service.new) }
     {
         self.wait(rt, &mut service.audit)?;
         self.accept_all(&mut service.audit)?;
         self.tell_full(errors);
         self.tell_tick(&mut service.service, persister)?;
-        self.serve_all(rt, wide, grace, service, persister, shared)?;
+        self.serve_all(rt, manner, grace, service, persister, shared)?;
         self.tell_trouble(persister.trouble(), errors);
         self.tell_room(persister.lasting_tenths(), errors);
         self.tell_lost(errors);
@@ -646,7 +678,7 @@ impl Hosting {
     fn serve_all<R, D: Service<R>, K: Persist<D>>(
         &mut self,
         rt: &R,
-        wide: bool,
+        manner: Manner,
         grace: Option<u64>,
         service: &mut Attended<D>,
         persister: &mut K,
@@ -655,21 +687,21 @@ impl Hosting {
         requires knows { (q : Request) → D.knows q ≡ true }
         requires room { AreShared shared.old }
         ensures room { AreShared shared.new }
-        ensures attended { OnOk result (WasAttended hosted wide D.may K.prefetches K.persists K.waits K.shares K.holds grace
+        ensures attended { OnOk result (WasAttended hosted manner D.may K.prefetches K.persists K.waits K.shares K.holds grace
             persister.old service.old persister.new service.new) }
         ensures keepers { OnOk result ((heard : Attended D) × (seats : List (Option (Connection Socket Global))) ×
             Hears (acts_of_endings self.old.tick self.old.lost self.old.connections.ended.items) service.old heard ×
             SendsToKeepers sockets (K.may_answer persister.old) heard.stays self.old.connections.numbers.items self.old.connections.seats.items seats) }
     {
-        self.end_stays(rt, wide, grace, service, persister, shared)?;
-        self.serve(rt, wide, service, persister, shared)
+        self.end_stays(rt, manner, grace, service, persister, shared)?;
+        self.serve(rt, manner, service, persister, shared)
     }
 
     // Gives each connection that is due its turn.
     fn serve<R, D: Service<R>, K: Persist<D>>(
         &mut self,
         rt: &R,
-        wide: bool,
+        manner: Manner,
         service: &mut Attended<D>,
         persister: &mut K,
         shared: &mut SharedBuffers<Global>,
@@ -677,16 +709,16 @@ impl Hosting {
         requires knows { (q : Request) → D.knows q ≡ true }
         requires room { AreShared shared.old }
         ensures room { AreShared shared.new }
-        ensures attended { (grace : Option ℕ) → OnOk result (WasAttended hosted wide D.may K.prefetches K.persists K.waits K.shares K.holds grace
+        ensures attended { (grace : Option ℕ) → OnOk result (WasAttended hosted manner D.may K.prefetches K.persists K.waits K.shares K.holds grace
             persister.old service.old persister.new service.new) }
         ensures sent { OnOk result ((seats : List (Option (Connection Socket Global))) × HasSent sockets self.old.connections.seats.items seats) }
     {
         match self.iterate_all(rt, service, persister, shared) {
             Ok(called) => {
                 self.note_lost(called);
-                self.take_numbers(rt, wide, service, persister, shared, called)?;
-                self.answer(&service.service, persister, shared, called);
-                self.settle(called.count())
+                self.take_numbers(rt, manner, service, persister, shared, called)?;
+                self.answer(service, persister, shared, called);
+                self.settle(called.count(), changes_of(service, persister))
             }
             Err(fault) => Err(HostFault::Persist(fault)),
         }
@@ -703,7 +735,8 @@ impl Hosting {
         requires knows { (q : Request) → D.knows q ≡ true }
         requires room { AreShared shared.old }
         ensures room { AreShared shared.new }
-        ensures attended { (wide : Bool) (grace : Option ℕ) → OnOk result (WasAttended hosted wide D.may K.prefetches K.persists K.waits K.shares K.holds grace
+        ensures attended { (manner : Manner) (grace : Option ℕ) →
+            OnOk result (WasAttended hosted manner D.may K.prefetches K.persists K.waits K.shares K.holds grace
             persister.old service.old persister.new service.new) }
         ensures sent { OnOk result (HasSent sockets self.old.connections.seats.items self.new.connections.seats.items) }
     {
@@ -731,7 +764,7 @@ impl Hosting {
     fn take_numbers<R, D: Service<R>, K: Persist<D>>(
         &mut self,
         rt: &R,
-        wide: bool,
+        manner: Manner,
         service: &mut Attended<D>,
         persister: &mut K,
         shared: &mut SharedBuffers<Global>,
@@ -740,7 +773,7 @@ impl Hosting {
         requires knows { (q : Request) → D.knows q ≡ true }
         requires room { AreShared shared.old }
         ensures room { AreShared shared.new }
-        ensures attended { (grace : Option ℕ) → OnOk result (WasAttended hosted wide D.may K.prefetches K.persists K.waits K.shares K.holds grace
+        ensures attended { (grace : Option ℕ) → OnOk result (WasAttended hosted manner D.may K.prefetches K.persists K.waits K.shares K.holds grace
             persister.old service.old persister.new service.new) }
         ensures sent { OnOk result (HasSent sockets self.old.connections.seats.items self.new.connections.seats.items) }
     {
@@ -754,7 +787,7 @@ impl Hosting {
         if self.queue.called().is_empty() {
             return Ok(());
         }
-        match self.take_numbers_of(rt, wide, service, persister, shared) {
+        match self.take_numbers_of(rt, manner, service, persister, shared) {
             Ok(taken) => {
                 self.note_lost(taken);
                 Ok(())
@@ -789,7 +822,7 @@ impl Hosting {
     fn take_numbers_of<R, D: Service<R>, K: Persist<D>>(
         &mut self,
         rt: &R,
-        wide: bool,
+        manner: Manner,
         service: &mut Attended<D>,
         persister: &mut K,
         shared: &mut SharedBuffers<Global>,
@@ -797,7 +830,7 @@ impl Hosting {
         requires knows { (q : Request) → D.knows q ≡ true }
         requires room { AreShared shared.old }
         ensures room { AreShared shared.new }
-        ensures attended { (grace : Option ℕ) → OnOk result (WasAttended hosted wide D.may K.prefetches K.persists K.waits K.shares K.holds grace
+        ensures attended { (grace : Option ℕ) → OnOk result (WasAttended hosted manner D.may K.prefetches K.persists K.waits K.shares K.holds grace
             persister.old service.old persister.new service.new) }
         ensures sent { OnOk result (HasSent sockets self.old.connections.seats.items self.new.connections.seats.items) }
     {
@@ -807,20 +840,20 @@ impl Hosting {
         match &mut self.batch {
             None => {
                 serve_takings(
-                    rt, service, persister, shared, seats, numbers, called, wide, false,
+                    rt, service, persister, shared, seats, numbers, called, manner, false,
                 )?;
                 Ok(Called::Served(called.len()))
             }
             Some(batch) => prefetch_takings(
-                rt, service, persister, batch, shared, seats, numbers, called, wide,
+                rt, service, persister, batch, shared, seats, numbers, called, manner,
             ),
         }
     }
 
-    // Answers who asks who holds numbers, or the terms.
+    // Answers who asks who holds numbers, what changes of that, or the terms.
     fn answer<D, K: Persist<D>>(
         &mut self,
-        service: &D,
+        service: &Attended<D>,
         persister: &K,
         shared: &mut SharedBuffers<Global>,
         called: Called,
@@ -836,14 +869,26 @@ impl Hosting {
             let terms = self.options.terms();
             let ConnectionTable { seats, ready, .. } = &mut self.connections;
             let few = count.min(ready.len());
-            answer_queries(service, persister, terms, shared, seats, &ready[..few]);
+            let changes = changes_of(service, persister);
+            answer_queries(
+                &service.service,
+                persister,
+                terms,
+                changes,
+                &self.first,
+                shared,
+                seats,
+                &ready[..few],
+            );
         }
     }
 
     // After the turn of so many: where one has left, another may be accepted again.
-    fn settle<F>(&mut self, called: usize) -> Result<(), HostFault<F>> {
+    fn settle<F>(&mut self, called: usize, changes: &Feed) -> Result<(), HostFault<F>> {
         let before = self.connections.open;
-        self.connections.settle(called, self.tick, &self.queue)?;
+        let end = end_told(changes, &self.first);
+        self.connections
+            .settle(called, self.tick, &self.queue, end)?;
         self.queue.clear_called();
         self.full = self.full && before <= self.connections.open;
         Ok(())
@@ -853,7 +898,7 @@ impl Hosting {
     fn end_stays<R, D: Service<R>, K: Persist<D>>(
         &mut self,
         rt: &R,
-        wide: bool,
+        manner: Manner,
         grace: Option<u64>,
         service: &mut Attended<D>,
         persister: &mut K,
@@ -862,9 +907,9 @@ impl Hosting {
         requires knows { (q : Request) → D.knows q ≡ true }
         requires room { AreShared shared.old }
         ensures room { AreShared shared.new }
-        ensures attended { OnOk result (WasAttended hosted wide D.may K.prefetches K.persists K.waits K.shares K.holds grace
+        ensures attended { OnOk result (WasAttended hosted manner D.may K.prefetches K.persists K.waits K.shares K.holds grace
             persister.old service.old persister.new service.new) }
-        ensures ends { OnOk result (HearsAndEnds K.may_answer (EndsDue wide D.may K.persists K.waits K.shares K.holds) grace self.old.looks self.old.tick
+        ensures ends { OnOk result (HearsAndEnds K.may_answer (EndsDue manner.wide D.may K.persists K.waits K.shares K.holds) grace self.old.looks self.old.tick
             (acts_of_endings self.old.tick self.old.lost self.old.connections.ended.items) self.old.connections.numbers.items self.new.connections.seats.items
             persister.old service.old persister.new service.new) }
         ensures unsent { OnOk result (Unsent sockets self.old.connections.seats.items self.new.connections.seats.items) }
@@ -872,14 +917,14 @@ impl Hosting {
         let ended = self.has_ended();
         self.connections.note_ended(service, self.lost, self.tick);
         self.connections.check_keepers(persister, &service.stays)?;
-        self.end_if_due(rt, wide, grace, service, persister, shared, ended)
+        self.end_if_due(rt, manner, grace, service, persister, shared, ended)
     }
 
     // Ends the stays that are due, where a second has passed or connections have ended, and any are to end.
     fn end_if_due<R, D: Service<R>, K: Persist<D>>(
         &mut self,
         rt: &R,
-        wide: bool,
+        manner: Manner,
         grace: Option<u64>,
         service: &mut Attended<D>,
         persister: &mut K,
@@ -889,7 +934,7 @@ impl Hosting {
         requires knows { (q : Request) → D.knows q ≡ true }
         requires room { AreShared shared.old }
         ensures room { AreShared shared.new }
-        ensures ends { OnOk result (EndsAtTick (EndsDue wide D.may K.persists K.waits K.shares K.holds) grace self.old.looks self.old.tick
+        ensures ends { OnOk result (EndsAtTick (EndsDue manner.wide D.may K.persists K.waits K.shares K.holds) grace self.old.looks self.old.tick
             persister.old service.old persister.new service.new) }
         ensures table { self.new.connections ≡ self.old.connections }
     {
@@ -909,7 +954,7 @@ impl Hosting {
             service,
             persister,
             &mut shared.view,
-            wide,
+            manner.wide,
             grace,
             self.tick,
         )
@@ -953,13 +998,16 @@ impl Hosting {
     /// `AllocError`: an allocation failed. The stream is closed.
     pub(crate) fn welcome(
         &mut self,
-        stream: Socket,
+        mut stream: Socket,
         peer: Option<SocketAddr>,
         audit: &mut Audit,
     ) -> Result<(), AllocError>
         ensures options { self.new.options ≡ self.old.options }
         ensures one { self.new.connections.«open» ≤ self.old.connections.«open» + 1 }
     {
+        if self.options.owners {
+            stream.own(self.alloc);
+        }
         let kind = self.options.kind;
         let admitted = self
             .connections
@@ -1068,6 +1116,9 @@ impl Hosting {
         }
         if let Some(path) = self.doors.path() {
             put_line(format!(in self.alloc; "listening {path}\n"), output)?;
+        }
+        if let Some(path) = self.doors.admin_path() {
+            put_line(format!(in self.alloc; "admin {path}\n"), output)?;
         }
         if let Some(watch) = &self.watch {
             let address = watch.address()?;

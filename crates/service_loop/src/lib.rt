@@ -21,12 +21,16 @@
 //! that are due, and no others.
 //!
 //! After an iteration a line `take ID` that waits first takes a number (`serve_takings`): the server says `enter ID`, and then in the wide world one
-//! `seek ID`, elsewhere `probe ID` as often as it takes, and answers the last reply. This is kept before it is answered, like all else. Where answers
-//! are prefetched, the lines of that are a batch of their own (`prefetch_takings`).
+//! `seek ID`, elsewhere `probe ID` as often as it takes, and answers the last reply. Where tokens are given, it says `put ID 0` behind a number, and the
+//! answer tells the token too (`take_with_token`). This is kept before it is answered, like all else. Where answers are prefetched, the lines of that are
+//! a batch of their own (`prefetch_takings`).
 //!
 //! `host` is a whole server over sockets: it waits until some are ready (`mio`), gives those their turn, and closes who is at an end or idle. Its theorem
 //! (`WasAttended`): from its start to its end nothing else was done than such turns, each said of the numbers of its connections; what was heard
 //! of connections that ended, at a tick; and what was done to end the stays that are due then (`law_of_hosted_grace`).
+//!
+//! Where clients own their identities, the lines of each socket go through `OwnerLines`: an identity and the secret behind it become the identity that both
+//! give (`put_owned`, `law_of_owner_lines`). The rest of the loop knows nothing of that.
 //!
 //! `host_pools` is a server of several pools (`HostedPool`): a client chooses one by its first line (`Porch`). Its theorem (`PoolsWereAttended`): nothing else
 //! was done to each pool than `host` does.
@@ -59,16 +63,22 @@ pub mod audit;
 mod audit_lines;
 pub mod audit_log;
 pub mod buffers;
+pub mod change;
 pub mod connection;
 pub mod connections;
 pub mod doors;
 pub mod failing;
+pub mod feed;
+pub mod first_point;
 pub mod gathering;
 pub mod host_fault;
 pub mod hosting;
 pub mod laws;
 mod losing;
+pub mod manner;
 mod newcomer;
+pub mod owner_line;
+pub mod owner_lines;
 pub mod peek;
 pub mod persist;
 pub mod pool_line;
@@ -86,6 +96,8 @@ pub mod taking;
 pub mod teller;
 pub mod terms;
 pub mod turns;
+pub mod watch_line;
+pub mod watchers;
 pub mod watching;
 
 pub use answering::answer_queries;
@@ -93,12 +105,16 @@ pub use attended::{Attended, Ending};
 pub use audit::Audit;
 pub use audit_log::AuditLog;
 pub use buffers::{Buffers, MOST_LINES, UNSENT_ROOM};
+pub use change::Change;
 pub use connection::{Connection, ConnectionStage};
 pub use failing::fail_keepers;
+pub use feed::Feed;
+pub use first_point::FirstPoint;
 pub use gathering::{Batch, Called, gather, iterate_prefetched};
 pub use host_fault::HostFault;
 pub use hosting::{HostOptions, Hosted, host};
-pub use laws::{law_of_cut_lines, law_of_hosted_grace, law_of_the_queue};
+pub use laws::{law_of_cut_lines, law_of_hosted_grace, law_of_owner_lines, law_of_the_queue};
+pub use manner::Manner;
 pub use peek::Peek;
 pub use persist::{Persist, Prefetch};
 pub use pool_line::is_pool_name;
@@ -109,7 +125,8 @@ pub use service_watch::Tally;
 pub use shared::{READ_ROOM, SharedBuffers};
 pub use stream::Stream;
 pub use take_queue::TakeQueue;
-pub use taking::{prefetch_takings, say_taking, serve_takings};
+pub use taking::{Taken, prefetch_takings, say_taking, serve_takings, take_with_token};
 pub use teller::Teller;
 pub use terms::{Query, Terms};
 pub use turns::{iterate, send_replies, take_turns};
+pub use watch_line::WatchQuery;

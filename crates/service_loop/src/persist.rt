@@ -8,6 +8,7 @@ ghost use Rattle.service_loop.specs.Rooms.{room_in};
 ghost use Rattle.text_lines.specs.held.Held.{held_text};
 ghost use Rattle.text_lines.specs.declared.held.telling.TheConstants.{HELD_ROOM};
 
+use crate::feed::Feed;
 use service_watch::Tally;
 use std::alloc::Allocator;
 use text_lines::held::{HELD_ROOM, HeldQuery};
@@ -97,6 +98,11 @@ pub trait Persist<D> {
     /// Whether this server may still answer those who keep stays. Where it may not they are closed, and nothing is sent to them.
     fn may_answer_stays(&self) -> bool
         ensures { result ≡ true → may_answer self.now };
+
+    /// What changes of who holds numbers, where other servers share the service; `None` where none does: then the loop notes it.
+    fn changes(&self) -> Option<&Feed> {
+        None
+    }
 
     /// What is amiss and does not end the server, for people; `None` where nothing is.
     fn trouble(&self) -> Option<&'static str>;

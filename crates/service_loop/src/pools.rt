@@ -2,6 +2,7 @@
 
 ghost use Rattle.std.specs.Prelude.{◌≡◌, true, IfOk, OnOk};
 ghost use Rattle.model_asked.specs.Requests.{Request};
+ghost use Rattle.service_loop.specs.Manners.{manner_of};
 ghost use Rattle.service_loop.specs.Pools.{AreSamePools, IsSamePool, PoolWasAttended, PoolsWereAttended};
 ghost use Rattle.service_loop.specs.SharedBuffers.{AreShared};
 
@@ -9,13 +10,13 @@ use crate::attended::Attended;
 use crate::audit_log::AuditLog;
 use crate::host_fault::HostFault;
 use crate::hosting::{FULL, HostOptions, Hosted, Hosting, put_line};
+use crate::manner::Manner;
 use crate::persist::Persist;
 use crate::porch::{Arrival, Porch};
 use crate::shared::SharedBuffers;
 use crate::socket::Socket;
 use crate::teller::Teller;
 use crate::watching::numbers_of;
-use model_asked::WorldKind;
 use service_watch::listeners::Listeners;
 use service_watch::{Numbers, PoolPage, put_page, put_pages};
 use std::alloc::{AllocError, Global};
@@ -38,10 +39,9 @@ pub struct HostedPool<D, K, L> {
     pub service: Attended<D>,
     /// What keeps what the service tells.
     pub persister: K,
-    /// The world of its hall.
-    pub kind: WorldKind,
     /// How many seconds after its connection has ended a stay ends; never, where it is not given.
     pub grace: Option<u64>,
+    manner: Manner,
     log: L,
     hosting: Hosting,
     /// Whether something is to be done for it.
@@ -65,7 +65,7 @@ impl<D: Drop, K: Persist<D> + Drop, L: AuditLog + Drop> HostedPool<D, K, L> {
         log: L,
     ) -> Result<HostedPool<D, K, L>, HostFault<K::Fault>>
         ensures begins { IfOk result (λ p. (p.name ≡ name) × (p.service ≡ service) × (p.persister ≡ persister) ×
-            (p.kind ≡ options.kind) × (p.grace ≡ options.grace)) }
+            (p.manner ≡ manner_of options) × (p.grace ≡ options.grace)) }
     {
         let told = String::from_str(alloc, &name)?;
         let hosting = Hosting::within(rt, alloc, options, told, persister.most_prefetched())?;
@@ -73,7 +73,7 @@ impl<D: Drop, K: Persist<D> + Drop, L: AuditLog + Drop> HostedPool<D, K, L> {
             name,
             service,
             persister,
-            kind: options.kind,
+            manner: options.manner(),
             grace: options.grace,
             log,
             hosting,
@@ -115,10 +115,9 @@ impl<D, K: Persist<D>, L: AuditLog> HostedPool<D, K, L> {
         if !self.due {
             return Ok(());
         }
-        let wide = self.kind.is_wide();
         self.hosting.go_round(
             rt,
-            wide,
+            self.manner,
             self.grace,
             &mut self.service,
             &mut self.persister,
@@ -500,6 +499,9 @@ impl PoolServer {
         }
         if let Some(path) = self.porch.doors().path() {
             put_line(format!(in self.alloc; "listening {path}\n"), output)?;
+        }
+        if let Some(path) = self.porch.doors().admin_path() {
+            put_line(format!(in self.alloc; "admin {path}\n"), output)?;
         }
         if let Some(address) = self.porch.metrics_address()? {
             put_line(format!(in self.alloc; "metrics {address}\n"), output)?;

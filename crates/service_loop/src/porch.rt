@@ -138,10 +138,11 @@ impl Porch {
         let Listeners {
             network,
             local,
+            admin,
             metrics,
         } = listeners;
         let poll = new_poll(rt, STOPPER)?;
-        let doors = Doors::new(&poll, network, local)?;
+        let doors = Doors::new(&poll, network, local, admin)?;
         let scrapers = match metrics {
             Some(listener) => Some(Scrapers::new(alloc, &poll, listener)?),
             None => None,

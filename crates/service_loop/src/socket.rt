@@ -2,26 +2,54 @@
 
 ghost use Rattle.std.specs.Prelude.{None};
 
+use crate::owner_lines::OwnerLines;
 use crate::stream::Stream;
 use mio::net::{TcpStream, UnixStream};
 use mio::{Interest, Poll, Token};
+use std::alloc::Global;
 use std::io;
 use std::io::{Read, Write};
 use std::net::Shutdown;
 
 /// A connection of the network, or of this machine by a socket of the file system. It does not tell its bytes.
 #[derive(Drop)]
-pub enum Socket {
+pub enum Wire {
     /// By TCP.
     Network(TcpStream),
     /// By a socket of the file system.
     Local(UnixStream),
 }
 
+/// A connection of the system, and what its lines go through.
+#[derive(Drop)]
+pub struct Socket {
+    wire: Wire,
+    /// Whether its client may speak for all.
+    admin: bool,
+    /// Its lines, where clients own their identities.
+    owners: Option<OwnerLines>,
+}
+
 impl Socket {
+    /// A connection of a client, or of an administrator.
+    pub fn new(wire: Wire, admin: bool) -> Socket {
+        Socket {
+            wire,
+            admin,
+            owners: None,
+        }
+    }
+
+    /// From now on its lines name identities as those who own them do, unless it is an administrator's.
+    pub fn own(&mut self, alloc: Global) {
+        if !self.admin {
+            self.owners = Some(OwnerLines::new(alloc));
+        }
+    }
+
     /// Sends small pieces at once, where streams of its kind would hold them back.
     pub fn hurry(&self) {
-        if let Socket::Network(stream) = self {
+        if let Wire::Network(stream) = &self.wire {
             let _ = stream.set_nodelay(true);
         }
     }
@@ -33,9 +61,9 @@ impl Socket {
     /// What the system says.
     pub fn register(&mut self, poll: &Poll, token: Token) -> io::Result<()> {
         let both = Interest::READABLE | Interest::WRITABLE;
-        match self {
-            Socket::Network(stream) => poll.registry().register(stream, token, both),
-            Socket::Local(stream) => poll.registry().register(stream, token, both),
+        match &mut self.wire {
+            Wire::Network(stream) => poll.registry().register(stream, token, both),
+            Wire::Local(stream) => poll.registry().register(stream, token, both),
         }
     }
 
@@ -45,18 +73,38 @@ impl Socket {
     ///
     /// What the system says.
     pub fn deregister(&mut self, poll: &Poll) -> io::Result<()> {
-        match self {
-            Socket::Network(stream) => poll.registry().deregister(stream),
-            Socket::Local(stream) => poll.registry().deregister(stream),
+        match &mut self.wire {
+            Wire::Network(stream) => poll.registry().deregister(stream),
+            Wire::Local(stream) => poll.registry().deregister(stream),
         }
     }
 
     /// Says to the other side that no more is sent.
     pub fn end(&self) {
-        let _ = match self {
-            Socket::Network(stream) => stream.shutdown(Shutdown::Write),
-            Socket::Local(stream) => stream.shutdown(Shutdown::Write),
+        let _ = match &self.wire {
+            Wire::Network(stream) => stream.shutdown(Shutdown::Write),
+            Wire::Local(stream) => stream.shutdown(Shutdown::Write),
         };
+    }
+}
+
+impl Stream for Wire {
+    ghost left = { λ s. None };
+
+    ghost gone = { λ s. None };
+
+    fn read_some(&mut self, buf: &mut [u8]) -> io::Result<usize> {
+        match self {
+            Wire::Network(stream) => stream.read(buf),
+            Wire::Local(stream) => stream.read(buf),
+        }
+    }
+
+    fn write_some(&mut self, buf: &[u8]) -> io::Result<usize> {
+        match self {
+            Wire::Network(stream) => stream.write(buf),
+            Wire::Local(stream) => stream.write(buf),
+        }
     }
 }
 
@@ -66,16 +114,13 @@ impl Stream for Socket {
     ghost gone = { λ s. None };
 
     fn read_some(&mut self, buf: &mut [u8]) -> io::Result<usize> {
-        match self {
-            Socket::Network(stream) => stream.read(buf),
-            Socket::Local(stream) => stream.read(buf),
+        match &mut self.owners {
+            Some(lines) => lines.read(&mut self.wire, buf),
+            None => self.wire.read_some(buf),
         }
     }
 
     fn write_some(&mut self, buf: &[u8]) -> io::Result<usize> {
-        match self {
-            Socket::Network(stream) => stream.write(buf),
-            Socket::Local(stream) => stream.write(buf),
-        }
+        self.wire.write_some(buf)
     }
 }

@@ -1,7 +1,7 @@
 //! Lines that take a number, after a turn of the loop: `take ID` is `enter ID`, and then in the wide world one `seek ID`, elsewhere `probe ID` as often
-//! as it takes.
+//! as it takes. Where tokens are given, `put ID 0` asks for one behind it.
 
-ghost use Rattle.std.specs.Prelude.{◌≡◌, ◌⊎◌, ◌≤◌, ℕ, List, [], ◌∷◌, ◌++◌, if◌then◌else◌, Some, None, get_or, map, length, take, true, false, IfOk, OnOk, OnErr};
+ghost use Rattle.std.specs.Prelude.{◌≡◌, ◌⊎◌, ◌≤◌, ℕ, List, [], ◌∷◌, ◌++◌, if◌then◌else◌, Some, None, ◌+◌, ◌&&◌, ◌||◌, get_or, map, option_map, length, take, true, false, IfOk, OnOk, OnErr};
 ghost use Rattle.model_asked.specs.Replies.{ShownReply, with_view};
 ghost use Rattle.model_asked.specs.Requests.{Request};
 ghost use Rattle.text_lines.specs.Events.{event_lines, event_words};
@@ -15,13 +15,15 @@ ghost use Rattle.service_loop.specs.Losing.{lost_acts};
 ghost use Rattle.service_loop.specs.Searching.{most_said, searched};
 ghost use Rattle.service_loop.specs.Seats.{seats_of, NoneSent};
 ghost use Rattle.service_loop.specs.SharedBuffers.{AreShared};
-ghost use Rattle.service_loop.specs.Taking.{IsTaking, NumbersTaken, SaysTaking, SeatGivenUp, SeatTook, TakingsGivenUp, is_crowded, TakingsKept, TakingsPrefetched, events_for, events_of, seat_taken_for, wants_search};
+ghost use Rattle.service_loop.specs.Taking.{IsTaking, NumbersTaken, SaysTaking, SeatGivenUp, SeatTook, TakingsGivenUp, is_crowded, TakesWith, TakingsKept, TakingsPrefetched, events_for, events_of, search_events, seat_taken_for, wants_search};
+ghost use Rattle.service_loop.specs.Tokens.{AsksToken, is_got, taken_text};
 
 use crate::attended::Attended;
 use crate::audit::Asker;
 use crate::connection::{Connection, ConnectionStage};
 use crate::gathering::{Batch, Called, prefetch};
 use crate::losing::note_lost;
+use crate::manner::Manner;
 use crate::persist::{Persist, Prefetch};
 use crate::searching::{most_said, searching};
 use crate::shared::SharedBuffers;
@@ -30,7 +32,9 @@ use crate::turns::{number_at, send_replies};
 use model_asked::{Event, Reply};
 use model_steps::{Refusal, View};
 use std::alloc::{AllocError, Allocator};
-use text_lines::{Replies, print_event};
+use text_lines::{
+    HELD_REPLIES, REPLY_ROOM, Replies, print_event, print_reply, print_words, put_number,
+};
 use text_player::Service;
 
 /// What ends a line.
@@ -44,6 +48,13 @@ fn wants_search(reply: &Reply<()>) -> bool
     ensures { result ≡ wants_search reply.now }
 {
     matches!(reply, Reply::Ok | Reply::Missed)
+}
+
+// Whether a number was taken.
+fn is_got(reply: &Reply<()>) -> bool
+    ensures { result ≡ is_got reply.now }
+{
+    matches!(reply, Reply::Got(_))
 }
 
 /// Whether this refuses a number since as many compete as may.
@@ -118,6 +129,82 @@ pub fn say_taking<R, D: Service<R>>(
     took.answer
 }
 
+// Whether a token is asked for.
+fn asks_token(tokens: bool, ahead: bool, got: bool) -> bool
+    ensures { result ≡ (tokens && (ahead || got)) }
+{
+    tokens && (ahead || got)
+}
+
+// Asks for a token of an identity, or not. Returns what is replied to it, if it got a number.
+fn ask_token<R, D: Service<R>>(
+    rt: &R,
+    service: &mut D,
+    identity: u64,
+    asks: bool,
+    got: bool,
+) -> Option<Reply<()>>
+    requires { (q : Request) → D.knows q ≡ true }
+    ensures { (turns : List Turn) × (view : List (ℕ × ℕ)) × Runs D.may service.old turns service.new ×
+        AsksToken asks got identity turns (option_map (λ r. with_view r view) result) }
+{
+    if !asks {
+        return None;
+    }
+    let mut view = View::new();
+    let reply = service.apply(rt, Event::Put(identity, 0), &mut view);
+    if got { Some(reply) } else { None }
+}
+
+/// What was said to a client that takes a number.
+#[derive(Clone, Copy, Debug, Drop)]
+pub struct Taken {
+    /// The reply that tells the number, or why there is none.
+    pub answer: Reply<()>,
+    /// The reply that tells the token, if one was asked for behind a number.
+    pub token: Option<Reply<()>>,
+}
+
+/// Takes a number for an identity (`say_taking`), and then asks for a token, if tokens are given: `put` of any value. It is asked for if a number was
+/// got, and always where the answers were prefetched.
+pub fn take_with_token<R, D: Service<R>>(
+    rt: &R,
+    service: &mut D,
+    view: &mut View,
+    identity: u64,
+    manner: Manner,
+    ahead: bool,
+) -> Taken
+    requires { (q : Request) → D.knows q ≡ true }
+    ensures { (turns : List Turn) × (shown : List (ℕ × ℕ)) × Runs D.may service.old turns service.new ×
+        TakesWith manner ahead identity turns (with_view result.answer view.new) (option_map (λ r. with_view r shown) result.token) }
+{
+    let answer = say_taking(rt, service, view, identity, manner.wide, ahead);
+    let got = is_got(&answer);
+    let asks = asks_token(manner.tokens, ahead, got);
+    let token = ask_token(rt, service, identity, asks, got);
+    Taken { answer, token }
+}
+
+/// Appends the line that a client is answered that takes a number: with the token behind it, or the refusal of that.
+pub(crate) fn print_taken<A: Allocator>(taken: Taken, view: &View, out: &mut Replies<A>)
+    requires { length out.old + REPLY_ROOM + 21 ≤ HELD_REPLIES }
+    ensures text { (shown : List (ℕ × ℕ)) → out.new ≡
+        out.old ++ taken_text (with_view taken.answer view.now) (option_map (λ r. with_view r shown) taken.token) }
+    ensures short { length out.new ≤ length out.old + REPLY_ROOM + 21 }
+{
+    match taken.token {
+        Some(Reply::Value(token)) => {
+            print_words(taken.answer, view, out);
+            out.put(b" ");
+            put_number(token, out);
+            out.put(b"\n");
+        }
+        Some(Reply::Refused(why)) => print_reply(Reply::Refused(why), view, out),
+        _ => print_reply(taken.answer, view, out),
+    }
+}
+
 // The connection of a seat takes a number, where there is one that rests. It is the one of this number.
 fn take_number_at<R, D: Service<R>, S: Stream, A: Allocator, B: Allocator>(
     rt: &R,
@@ -126,13 +213,13 @@ fn take_number_at<R, D: Service<R>, S: Stream, A: Allocator, B: Allocator>(
     seats: &mut [Option<Connection<S, A>>],
     number: u64,
     key: usize,
-    wide: bool,
+    manner: Manner,
     ahead: bool,
 )
     requires knows { (q : Request) → D.knows q ≡ true }
     requires room { AreShared shared.old }
     ensures took { ((service.new ≡ service.old) × (seats.new ≡ seats.old)) ⊎
-        ((turn : SeatTook (seats_of S.left S.gone) wide ahead shared.old.patient D.may (λ c. c.stage ≡ ConnectionStage.Idle) key
+        ((turn : SeatTook (seats_of S.left S.gone) manner ahead shared.old.patient D.may (λ c. c.stage ≡ ConnectionStage.Idle) key
         service.old.service seats.old service.new.service seats.new) ×
         Hears (acts_of number turn.turns) service.old service.new) }
     ensures room { AreShared shared.new }
@@ -143,7 +230,7 @@ fn take_number_at<R, D: Service<R>, S: Stream, A: Allocator, B: Allocator>(
             if let ConnectionStage::Idle = connection.stage {
                 service.listen_to(number);
                 service.audit.listen_to(Asker::Taker { answered: false });
-                connection.take_number(rt, service, shared, wide, ahead);
+                connection.take_number(rt, service, shared, manner, ahead);
                 service.audit.listen_to(Asker::Client);
             }
         }
@@ -164,12 +251,12 @@ fn take_numbers<R, D: Service<R>, K: Persist<D>, S: Stream, A: Allocator, B: All
     seats: &mut [Option<Connection<S, A>>],
     numbers: &[u64],
     called: &[usize],
-    wide: bool,
+    manner: Manner,
     ahead: bool,
 )
     requires knows { (q : Request) → D.knows q ≡ true }
     requires room { AreShared shared.old }
-    ensures taken { (log : TurnLog) × NumbersTaken (seats_of S.left S.gone) wide ahead shared.old.patient D.may
+    ensures taken { (log : TurnLog) × NumbersTaken (seats_of S.left S.gone) manner ahead shared.old.patient D.may
         service.old.service seats.old log service.new.service seats.new ×
         Hears (acts_in (number_at numbers.now) log) service.old service.new }
     ensures room { AreShared shared.new }
@@ -185,7 +272,7 @@ fn take_numbers<R, D: Service<R>, K: Persist<D>, S: Stream, A: Allocator, B: All
             seats,
             number_at(numbers, *key),
             *key,
-            wide,
+            manner,
             ahead,
         );
     }
@@ -206,19 +293,19 @@ pub fn serve_takings<R, D: Service<R>, K: Persist<D>, S: Stream, A: Allocator, B
     seats: &mut [Option<Connection<S, A>>],
     numbers: &[u64],
     called: &[usize],
-    wide: bool,
+    manner: Manner,
     ahead: bool,
 ) -> Result<(), K::Fault>
     requires knows { (q : Request) → D.knows q ≡ true }
     requires room { AreShared shared.old }
-    ensures turned { OnOk result ((turned : TakingsKept (seats_of S.left S.gone) wide ahead shared.old.patient D.may K.persists
+    ensures turned { OnOk result ((turned : TakingsKept (seats_of S.left S.gone) manner ahead shared.old.patient D.may K.persists
         persister.old service.old.service seats.old persister.new service.new.service seats.new) ×
         Hears (acts_in (number_at numbers.now) turned.log) service.old service.new) }
     ensures unsent { OnErr result (NoneSent (seats_of S.left S.gone) seats.old seats.new) }
     ensures room { AreShared shared.new }
 {
     take_numbers(
-        rt, service, persister, shared, seats, numbers, called, wide, ahead,
+        rt, service, persister, shared, seats, numbers, called, manner, ahead,
     );
     persister.persist(&mut service.service)?;
     send_replies(seats, called);
@@ -244,9 +331,9 @@ fn add_event<B: Allocator>(
     Ok(())
 }
 
-// The lines that take a number for an identity are added to others.
+// The lines that search for a number of an identity are added to others.
 #[tactic(auto, using(crate::proofs::TakingLemmas::lines_searched, crate::proofs::TakingLemmas::lines_entered))]
-fn add_taking<B: Allocator>(
+fn add_searches<B: Allocator>(
     identity: u64,
     wide: bool,
     words: &mut Replies<B>,
@@ -254,7 +341,7 @@ fn add_taking<B: Allocator>(
 ) -> Result<(), AllocError>
     requires { words.old ≡ [] }
     ensures empty { words.new ≡ [] }
-    ensures added { IfOk result (λ done. lines.new.items ≡ lines.old.items ++ event_lines (events_for wide (Some identity))) }
+    ensures added { IfOk result (λ done. lines.new.items ≡ lines.old.items ++ event_lines (search_events wide identity)) }
     ensures kept { (more : List ℕ) × (lines.new.items ≡ lines.old.items ++ more) }
 {
     let most = most_said(wide);
@@ -263,6 +350,26 @@ fn add_taking<B: Allocator>(
     while said < most {
         add_event(searching(wide, identity), words, lines)?;
         said += 1;
+    }
+    Ok(())
+}
+
+// The lines that take a number for an identity are added to others.
+#[tactic(auto, using(crate::proofs::TakingLemmas::lines_asked, crate::proofs::TakingLemmas::lines_unasked))]
+fn add_taking<B: Allocator>(
+    identity: u64,
+    manner: Manner,
+    words: &mut Replies<B>,
+    lines: &mut Vec<u8, B>,
+) -> Result<(), AllocError>
+    requires { words.old ≡ [] }
+    ensures empty { words.new ≡ [] }
+    ensures added { IfOk result (λ done. lines.new.items ≡ lines.old.items ++ event_lines (events_for manner (Some identity))) }
+    ensures kept { (more : List ℕ) × (lines.new.items ≡ lines.old.items ++ more) }
+{
+    add_searches(identity, manner.wide, words, lines)?;
+    if manner.tokens {
+        add_event(Event::Put(identity, 0), words, lines)?;
     }
     Ok(())
 }
@@ -280,13 +387,13 @@ fn taking_at<S: Stream, A: Allocator>(seats: &[Option<Connection<S, A>>], key: u
 }
 
 // The most bytes of the lines that take one number.
-fn taking_room(wide: bool) -> usize {
-    LINE_ROOM * (most_said(wide) + 1)
+fn taking_room(manner: Manner) -> usize {
+    LINE_ROOM * (most_said(manner.wide) + 2)
 }
 
 // Whether there is room in a batch for the lines that take one number more. In an empty one there is.
-fn has_room<B: Allocator>(batch: &Batch<B>, wide: bool) -> bool {
-    batch.lines.is_empty() || batch.lines.len() <= batch.most.saturating_sub(taking_room(wide))
+fn has_room<B: Allocator>(batch: &Batch<B>, manner: Manner) -> bool {
+    batch.lines.is_empty() || batch.lines.len() <= batch.most.saturating_sub(taking_room(manner))
 }
 
 // The lines of the connection of a seat are added to the batch, where it takes a number. Says whether there was room for them, and memory.
@@ -295,21 +402,21 @@ fn add_taking_at<S: Stream, A: Allocator, B: Allocator>(
     words: &mut Replies<B>,
     seats: &[Option<Connection<S, A>>],
     key: usize,
-    wide: bool,
+    manner: Manner,
 ) -> bool
     requires { words.old ≡ [] }
     ensures empty { words.new ≡ [] }
     ensures lines { batch.new.lines.items ≡ batch.old.lines.items ++
-        (if result then event_lines (events_for wide (seat_taken_for (seats_of S.left S.gone) (get_or seats.now key None))) else []) }
+        (if result then event_lines (events_for manner (seat_taken_for (seats_of S.left S.gone) (get_or seats.now key None))) else []) }
 {
     let Some(identity) = taking_at(seats, key) else {
         return true;
     };
-    if !has_room(batch, wide) {
+    if !has_room(batch, manner) {
         return false;
     }
     let before = batch.lines.len();
-    if add_taking(identity, wide, words, &mut batch.lines).is_err() {
+    if add_taking(identity, manner, words, &mut batch.lines).is_err() {
         batch.lines.truncate(before);
         return false;
     }
@@ -322,17 +429,17 @@ fn gather_takings<S: Stream, A: Allocator, B: Allocator>(
     words: &mut Replies<B>,
     seats: &[Option<Connection<S, A>>],
     called: &[usize],
-    wide: bool,
+    manner: Manner,
 ) -> usize
     requires { words.old ≡ [] }
     ensures few { result ≤ length called.now }
-    ensures lines { batch.new.lines.items ≡ event_lines (events_of (seats_of S.left S.gone) wide seats.now (take result called.now)) }
+    ensures lines { batch.new.lines.items ≡ event_lines (events_of (seats_of S.left S.gone) manner seats.now (take result called.now)) }
     ensures empty { words.new ≡ [] }
 {
     batch.lines.clear();
     batch.holds = false;
     let mut seen = 0;
-    while seen < called.len() && add_taking_at(batch, words, seats, called[seen], wide) {
+    while seen < called.len() && add_taking_at(batch, words, seats, called[seen], manner) {
         seen += 1;
     }
     seen
@@ -382,12 +489,12 @@ pub fn prefetch_takings<R, D: Service<R>, K: Persist<D>, S: Stream, A: Allocator
     seats: &mut [Option<Connection<S, A>>],
     numbers: &[u64],
     called: &[usize],
-    wide: bool,
+    manner: Manner,
 ) -> Result<Called, K::Fault>
     requires knows { (q : Request) → D.knows q ≡ true }
     requires room { AreShared shared.old }
     ensures served { (count : ℕ) → result ≡ Ok (Called.Served count) →
-        (turned : TakingsPrefetched (seats_of S.left S.gone) wide true shared.old.patient D.may K.prefetches K.persists
+        (turned : TakingsPrefetched (seats_of S.left S.gone) manner true shared.old.patient D.may K.prefetches K.persists
         persister.old service.old.service seats.old batch.new.lines.items persister.new service.new.service seats.new) ×
         Hears (acts_in (number_at numbers.now) turned.turn.log) service.old service.new }
     ensures unserved { (count : ℕ) → result ≡ Ok (Called.Unserved count) → Gathered (seats_of S.left S.gone) seats.old seats.new ×
@@ -395,17 +502,17 @@ pub fn prefetch_takings<R, D: Service<R>, K: Persist<D>, S: Stream, A: Allocator
     ensures lost { (count : ℕ) → result ≡ Ok (Called.Unserved count) → K.waits persister.old service.old.service persister.new service.new.service ×
         Hears (lost_acts batch.new.kind service.old.stays (whole_lines batch.new.lines.items)) service.old service.new }
     ensures lines { IfOk result (λ called_of. batch.new.lines.items ≡
-        event_lines (events_of (seats_of S.left S.gone) wide seats.old (take (count_of called_of) called.now))) }
+        event_lines (events_of (seats_of S.left S.gone) manner seats.old (take (count_of called_of) called.now))) }
     ensures unsent { OnErr result (NoneSent (seats_of S.left S.gone) seats.old seats.new) }
     ensures few { IfOk result (λ called_of. count_of called_of ≤ length called.now) }
     ensures room { AreShared shared.new }
 {
-    let seen = gather_takings(batch, &mut shared.replies, seats, called, wide);
+    let seen = gather_takings(batch, &mut shared.replies, seats, called, manner);
     let few = &called[..seen];
     match prefetch(&mut service.service, persister, batch)? {
         Prefetch::Known => {
             serve_takings(
-                rt, service, persister, shared, seats, numbers, few, wide, true,
+                rt, service, persister, shared, seats, numbers, few, manner, true,
             )?;
             Ok(Called::Served(seen))
         }

@@ -3,9 +3,12 @@
 ghost use Rattle.std.specs.Prelude.{◌≡◌, ◌≤◌, ◌+◌, ◌++◌, length};
 ghost use Rattle.text_lines.specs.declared.held.telling.TheConstants.{HELD_ROOM};
 ghost use Rattle.text_lines.specs.declared.replies.TheConstants.{HELD_REPLIES};
-ghost use Rattle.service_loop.specs.Queries.{hold_text, query_of, query_text, seconds, terms_text};
+ghost use Rattle.service_loop.specs.Queries.{changes_if, hold_text, query_of, query_text, seconds, terms_text};
 
+use crate::feed::Feed;
+use crate::first_point::FirstPoint;
 use crate::persist::Persist;
+use crate::watch_line::{WatchQuery, put_changes, watch_query};
 use std::alloc::Allocator;
 use text_lines::held::{HELD_ROOM, HeldQuery, held_query};
 use text_lines::words::is_word;
@@ -25,6 +28,8 @@ pub struct Terms {
 pub enum Query {
     /// Who holds numbers: `held`, and `held ID`.
     Holders(HeldQuery),
+    /// What changes of that: `watch`, and `watch P`.
+    Changes(WatchQuery),
     /// The terms of the server: `terms`.
     Terms,
 }
@@ -38,6 +43,16 @@ pub fn query_of(line: &[u8]) -> Option<Query>
     }
     match held_query(line) {
         Some(query) => Some(Query::Holders(query)),
+        None => changes_if(watch_query(line)),
+    }
+}
+
+// Asks for changes, where a line does.
+fn changes_if(query: Option<WatchQuery>) -> Option<Query>
+    ensures { result ≡ changes_if query }
+{
+    match query {
+        Some(query) => Some(Query::Changes(query)),
         None => None,
     }
 }
@@ -78,20 +93,23 @@ pub fn put_terms<B: Allocator>(terms: Terms, out: &mut Replies<B>)
     out.put(b"\n");
 }
 
-/// Appends the answer to a query: the terms, or who holds numbers, as the persister tells.
+/// Appends the answer to a query: the terms, or who holds numbers, as the persister tells, or what changed of that.
 pub fn put_answer<D, K: Persist<D>, B: Allocator>(
     service: &D,
     persister: &K,
     terms: Terms,
+    feed: &Feed,
+    first: &FirstPoint,
     query: Query,
     out: &mut Replies<B>,
 )
     requires room { length out.old + HELD_ROOM ≤ HELD_REPLIES }
-    ensures text { out.new ≡ out.old ++ query_text terms (K.holds persister.now service.now) query }
+    ensures text { out.new ≡ out.old ++ query_text terms (K.holds persister.now service.now) first.now feed.now query }
     ensures short { length out.new ≤ length out.old + HELD_ROOM }
 {
     match query {
         Query::Holders(query) => persister.put_held(service, query, out),
+        Query::Changes(query) => put_changes(feed, first, query, out),
         Query::Terms => put_terms(terms, out),
     }
 }

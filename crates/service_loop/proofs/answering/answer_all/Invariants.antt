@@ -7,6 +7,6 @@ use Rattle.service_loop.proofs.answering.answer_all.Given as goal
 
 abbrev pub invariant-loop-key : goal.invariant-loop-key
 invariant-loop-key g l = record {
-  so : Answering (seats_of g.S.Stream.left g.S.Stream.gone) (query_text l.terms (g.K.Persist.holds l.persister l.service)) (λ c. c.stage ≡ stage.Idle) l.fn.seats l.seats;
+  so : Answering (seats_of g.S.Stream.left g.S.Stream.gone) (query_text l.terms (g.K.Persist.holds l.persister l.service) l.first l.feed) (λ c. c.stage ≡ stage.Idle) l.fn.seats l.seats;
   room : AreShared l.shared;
 }

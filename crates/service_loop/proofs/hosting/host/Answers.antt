@@ -1,39 +1,33 @@
-use Rattle.model_asked.specs.Config.{is_wide}
+use Rattle.service_loop.specs.Manners.{manner_of}
 use Rattle.service_loop.specs.Sendings.{hosted}
-use Rattle.std.proofs.Common.{◌++◌, []}
 use Rattle.service_loop.specs.Attendance.{WasAttended}
 use Rattle.service_loop.proofs.AttendanceLemmas.{attended_more, attended_none, was_served}
-use Rattle.service_loop.proofs.RoundLemmas.{always, ok_then, owes_nothing}
-use contract.BorrowLft.{⊑_meet, ⊑_refl, ⊑_static}
+use Rattle.service_loop.proofs.RoundLemmas.{always, ok_then, owes_nothing, iterates_within}
+use contract.BorrowLft.{⊑_static}
 use Rattle.service_loop.proofs.hosting.host.Goals.{in-None, in-Some+in_ok-go_round+then-is_over}
 use Rattle.service_loop.proofs.hosting.host.Goals as goal
 
 pub into_iter-iterator-requires : goal.into_iter-iterator-requires
-into_iter-iterator-requires g c κs = λ within.
-    let κ = κs.0 in
-    let lives = g.row.R.lives in
-    let one = ⊑_meet κ lives [] within (⊑_static κ) in
-    let two = ⊑_meet κ (κ ++ lives) [] (⊑_meet κ κ lives (⊑_refl κ) within) (⊑_static κ) in
-    ((within, (within, tt)), (⊑_meet κ (lives ++ []) ((κ ++ lives) ++ []) one two, ⊑_static κs.1.0))
+into_iter-iterator-requires g c κs = λ within. ((within, (within, tt)), (iterates_within κs.0 g.row.R.lives within, ⊑_static κs.1.0))
 
 pub loop-init : goal.loop-init
 loop-init g c = record {
   room = c.in_ok-shared.ensures;
-  attended = attended_none hosted (is_wide c.args.options.kind) g.D.Service.may g.K.Persist.prefetches g.K.Persist.persists g.K.Persist.waits g.K.Persist.shares g.K.Persist.holds c.args.options.grace
+  attended = attended_none hosted (manner_of c.args.options) g.D.Service.may g.K.Persist.prefetches g.K.Persist.persists g.K.Persist.waits g.K.Persist.shares g.K.Persist.holds c.args.options.grace
       c.args.persister.now c.args.service.now;
 }
 
 pub loop-preserved : goal.loop-preserved
 loop-preserved g c = record {
   room = c.go_round.ensures.room;
-  attended = attended_more hosted (is_wide c.args.options.kind) g.D.Service.may g.K.Persist.prefetches g.K.Persist.persists g.K.Persist.waits g.K.Persist.shares g.K.Persist.holds _
-      c.is_wide-wide.result c.is_wide-wide.ensures _ _ _ _ _ _
+  attended = attended_more hosted (manner_of c.args.options) g.D.Service.may g.K.Persist.prefetches g.K.Persist.persists g.K.Persist.waits g.K.Persist.shares g.K.Persist.holds _
+      c.manner-manner.result c.manner-manner.ensures _ _ _ _ _ _
       c.loop.invariant.attended c.in_ok-go_round.ensures.attended;
 }
 
 pub returns-clause-attended : goal.returns-clause-attended
 returns-clause-attended g c =
-    let wide = is_wide c.args.options.kind in
+    let manner = manner_of c.args.options in
     let may = g.D.Service.may in
     let prefetches = g.K.Persist.prefetches in
     let persists = g.K.Persist.persists in
@@ -42,15 +36,15 @@ returns-clause-attended g c =
     let holds = g.K.Persist.holds in
     let grace = c.args.options.grace in
     always c.tell_end.result _
-    (elim c.match-next.branch as (λ _. WasAttended hosted wide may prefetches persists waits shares holds grace c.args.persister.now c.args.service.now c.match-next.persister c.match-next.service) [
+    (elim c.match-next.branch as (λ _. WasAttended hosted manner may prefetches persists waits shares holds grace c.args.persister.now c.args.service.now c.match-next.persister c.match-next.service) [
       | in-None w ↦ rw (w.persister-is, w.service-is) c.loop.invariant.attended
-      | in-Some+in_ok-go_round+then-is_over w ↦ rw (w.persister-is, w.service-is) (attended_more hosted wide may prefetches persists waits shares holds grace c.is_wide-wide.result c.is_wide-wide.ensures _ _ _ _ _ _
+      | in-Some+in_ok-go_round+then-is_over w ↦ rw (w.persister-is, w.service-is) (attended_more hosted manner may prefetches persists waits shares holds grace c.manner-manner.result c.manner-manner.ensures _ _ _ _ _ _
           c.loop.invariant.attended w.in_ok-go_round.ensures.attended)
     ])
 
 pub returns-clause-served : goal.returns-clause-served
 returns-clause-served g c =
-    ok_then c.tell_end.result _ _ (was_served hosted (is_wide c.args.options.kind) g.D.Service.may g.K.Persist.prefetches g.K.Persist.persists g.K.Persist.waits g.K.Persist.shares g.K.Persist.holds c.args.options.grace _ _ _ _)
+    ok_then c.tell_end.result _ _ (was_served hosted (manner_of c.args.options) g.D.Service.may g.K.Persist.prefetches g.K.Persist.persists g.K.Persist.waits g.K.Persist.shares g.K.Persist.holds c.args.options.grace _ _ _ _)
     (returns-clause-attended g c)
 
 pub go_round-requires : goal.go_round-requires

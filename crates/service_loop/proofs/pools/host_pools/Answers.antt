@@ -1,18 +1,12 @@
-use Rattle.std.proofs.Common.{◌++◌, []}
 use Rattle.service_loop.specs.Pools.{PoolsWereAttended}
 use Rattle.service_loop.proofs.PoolLemmas.{pools_attended_before, pools_attended_none, pools_attended_then, pools_same_attended}
-use Rattle.service_loop.proofs.RoundLemmas.{always}
-use contract.BorrowLft.{⊑_meet, ⊑_refl, ⊑_static}
+use Rattle.service_loop.proofs.RoundLemmas.{always, iterates_within}
+use contract.BorrowLft.{⊑_static}
 use Rattle.service_loop.proofs.pools.host_pools.Goals.{in-None, in-Some+in_ok-go_on+in_ok-serve_all+then-are_over}
 use Rattle.service_loop.proofs.pools.host_pools.Goals as goal
 
 pub into_iter-iterator-requires : goal.into_iter-iterator-requires
-into_iter-iterator-requires g c κs = λ within.
-    let κ = κs.0 in
-    let lives = g.row.R.lives in
-    let one = ⊑_meet κ lives [] within (⊑_static κ) in
-    let two = ⊑_meet κ (κ ++ lives) [] (⊑_meet κ κ lives (⊑_refl κ) within) (⊑_static κ) in
-    ((within, (within, tt)), (⊑_meet κ (lives ++ []) ((κ ++ lives) ++ []) one two, ⊑_static κs.1.0))
+into_iter-iterator-requires g c κs = λ within. ((within, (within, tt)), (iterates_within κs.0 g.row.R.lives within, ⊑_static κs.1.0))
 
 pub loop-init : goal.loop-init
 loop-init g c = record {

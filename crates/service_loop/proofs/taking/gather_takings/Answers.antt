@@ -12,6 +12,6 @@ loop-seen-preserved g c =
     record {
       few = omega arith;
       empty = c.if-add_taking_at.ensures.empty;
-      lines = c.if-add_taking_at.ensures.lines ∙ ap (λ l. l ++ event_lines (events_for c.args.wide (seat_taken_for on (get_or c.args.seats.now key None)))) c.loop-seen.invariant.lines
-          ∙ sym (events_more on c.args.wide c.args.seats.now c.args.called.now c.loop-seen.seen key c.loop-seen-test.true refl);
+      lines = c.if-add_taking_at.ensures.lines ∙ ap (λ l. l ++ event_lines (events_for c.args.manner (seat_taken_for on (get_or c.args.seats.now key None)))) c.loop-seen.invariant.lines
+          ∙ sym (events_more on c.args.manner c.args.seats.now c.args.called.now c.loop-seen.seen key c.loop-seen-test.true refl);
     }

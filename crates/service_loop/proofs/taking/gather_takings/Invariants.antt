@@ -8,7 +8,7 @@ abbrev pub invariant-loop-seen : goal.invariant-loop-seen
 invariant-loop-seen g l = record {
   few : l.seen ≤ length l.called;
   empty : l.words ≡ [];
-  lines : l.batch.lines.items ≡ event_lines (events_of (seats_of g.S.Stream.left g.S.Stream.gone) l.wide l.seats (take l.seen l.called));
+  lines : l.batch.lines.items ≡ event_lines (events_of (seats_of g.S.Stream.left g.S.Stream.gone) l.manner l.seats (take l.seen l.called));
 }
 
 abbrev pub decreases-loop-seen : goal.decreases-loop-seen

@@ -13,7 +13,7 @@ returns-in-Idle-clause-took g c =
     let took = c.take_number.ensures.takes in
     let r = runs_listened g.D.Service.may c.args.number took.0 c.args.service.now c.listen_to.new.self c.take_number.new.service c.listen_to.ensures took.1 in
     inr (
-      seat_took_number (seats_of g.S.Stream.left g.S.Stream.gone) c.args.wide c.args.ahead c.args.shared.now.patient g.D.Service.may (λ x. x.stage ≡ stage.Idle)
+      seat_took_number (seats_of g.S.Stream.left g.S.Stream.gone) c.args.manner c.args.ahead c.args.shared.now.patient g.D.Service.may (λ x. x.stage ≡ stage.Idle)
           c.args.key c.args.service.now.service c.args.seats.now c.take_number.new.service.service c.in-Some.connection c.take_number.new.self below (get_or_default c.args.seats.now c.args.key None c.index-seats-key.result below ∙ c.in-Some.is) c.in-Idle.is
           (λ again. (let e : stage.Taken ≡ stage.Idle = sym c.take_number.ensures.stage ∙ again in absurd cc)) took.0 r.0 took.2
           (ap (λ s. g.S.Stream.left s) c.take_number.ensures.stream) (ap (λ s. g.S.Stream.gone s) c.take_number.ensures.stream),

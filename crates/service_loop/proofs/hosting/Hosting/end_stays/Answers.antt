@@ -24,7 +24,7 @@ returns-clause-ends g c =
 pub returns-clause-attended : goal.returns-clause-attended
 returns-clause-attended g c =
     let ends = returns-clause-ends g c in
-    ok_then c.end_if_due.result _ _ (attended_ends hosted c.args.wide g.D.Service.may g.K.Persist.prefetches g.K.Persist.persists g.K.Persist.waits g.K.Persist.shares g.K.Persist.holds c.args.grace
+    ok_then c.end_if_due.result _ _ (attended_ends hosted c.args.manner g.D.Service.may g.K.Persist.prefetches g.K.Persist.persists g.K.Persist.waits g.K.Persist.shares g.K.Persist.holds c.args.grace
     c.args.self.now.looks c.args.self.now.tick c.args.self.now.lost c.args.self.now.connections.ended.items _ _ _ _ _ _) ends
 
 pub returns-clause-unsent : goal.returns-clause-unsent

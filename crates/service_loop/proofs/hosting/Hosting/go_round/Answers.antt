@@ -12,5 +12,5 @@ returns-clause-attended g c =
     let shares = g.K.Persist.shares in
     let holds = g.K.Persist.holds in
     let grace = c.args.grace in
-    attended_then hosted c.args.wide may prefetches persists waits shares holds grace _ _ _ _ _ _ (attended_maybe hosted c.args.wide may prefetches persists waits shares holds grace _ _ _ _ c.in_ok-tell_tick.ensures)
+    attended_then hosted c.args.manner may prefetches persists waits shares holds grace _ _ _ _ _ _ (attended_maybe hosted c.args.manner may prefetches persists waits shares holds grace _ _ _ _ c.in_ok-tell_tick.ensures)
     c.in_ok-serve_all.ensures.attended

@@ -7,9 +7,9 @@ use Rattle.service_loop.proofs.SendingLemmas.{has_sent_back, has_sent_gathered, 
 use Rattle.service_loop.proofs.hosting.Hosting.iterate_all.Goals as goal
 
 pub returns-in_ok-called-in-None-clause-attended : goal.returns-in_ok-called-in-None-clause-attended
-returns-in_ok-called-in-None-clause-attended g c = λ wide grace.
+returns-in_ok-called-in-None-clause-attended g c = λ manner grace.
     let t = c.in_ok-called-in-None.ensures.turned in
-    attended_turn hosted wide g.D.Service.may g.K.Persist.prefetches g.K.Persist.persists g.K.Persist.waits g.K.Persist.shares g.K.Persist.holds grace _ _ c.all-numbers.ensures.own _ _ _ _ _ _ t.0.turn t.1
+    attended_turn hosted manner g.D.Service.may g.K.Persist.prefetches g.K.Persist.persists g.K.Persist.waits g.K.Persist.shares g.K.Persist.holds grace _ _ c.all-numbers.ensures.own _ _ _ _ _ _ t.0.turn t.1
 
 pub returns-in_ok-called-in-None-clause-sent : goal.returns-in_ok-called-in-None-clause-sent
 returns-in_ok-called-in-None-clause-sent g c =
@@ -17,7 +17,7 @@ returns-in_ok-called-in-None-clause-sent g c =
     has_sent_back sockets _ _ _ c.iterate.new.seats c.deref_mut.ensures.value (sym c.deref_mut.ensures.len) (t.sent.many ∙ t.taken.many) (has_sent_turn sockets g.D.Service.may g.K.Persist.persists _ _ _ _ _ _ t)
 
 pub returns-in-Some-clause-attended : goal.returns-in-Some-clause-attended
-returns-in-Some-clause-attended g c = λ wide grace.
+returns-in-Some-clause-attended g c = λ manner grace.
     let may = g.D.Service.may in
     let prefetches = g.K.Persist.prefetches in
     let persists = g.K.Persist.persists in
@@ -25,8 +25,8 @@ returns-in-Some-clause-attended g c = λ wide grace.
     let e = c.iterate_prefetched.ensures in
     sent_called c.iterate_prefetched.result _
     (λ n is. let t = e.served n is in
-    attended_prefetched hosted wide may prefetches persists waits g.K.Persist.shares g.K.Persist.holds grace (λ x. x.peek) (λ x. x.stage ≡ stage.Queued) _ _ _ _ c.all-numbers-in-Some.ensures.own _ _ _ _ _ _ _ t.0 t.1)
-    (λ n is. attended_lost hosted wide may prefetches persists waits g.K.Persist.shares g.K.Persist.holds grace c.in-Some.batch.kind c.iterate_prefetched.new.batch.lines.items _ _ _ _ (e.lost n is))
+    attended_prefetched hosted manner may prefetches persists waits g.K.Persist.shares g.K.Persist.holds grace (λ x. x.peek) (λ x. x.stage ≡ stage.Queued) _ _ _ _ c.all-numbers-in-Some.ensures.own _ _ _ _ _ _ _ t.0 t.1)
+    (λ n is. attended_lost hosted manner may prefetches persists waits g.K.Persist.shares g.K.Persist.holds grace c.in-Some.batch.kind c.iterate_prefetched.new.batch.lines.items _ _ _ _ (e.lost n is))
 
 pub returns-in-Some-clause-sent : goal.returns-in-Some-clause-sent
 returns-in-Some-clause-sent g c =

@@ -9,8 +9,8 @@ use Rattle.service_loop.proofs.hosting.Hosting.serve.Goals as goal
 pub returns-in_ok-take_numbers-in-Ok-clause-attended : goal.returns-in_ok-take_numbers-in-Ok-clause-attended
 returns-in_ok-take_numbers-in-Ok-clause-attended g c = λ grace.
     always c.settle.result _
-    (attended_then hosted c.args.wide g.D.Service.may g.K.Persist.prefetches g.K.Persist.persists g.K.Persist.waits g.K.Persist.shares g.K.Persist.holds grace _ _ _ _ _ _
-    (ok_holds c.iterate_all.result _ _ c.in-Ok.is (c.iterate_all.ensures.attended c.args.wide grace)) (c.in_ok-take_numbers-in-Ok.ensures.attended grace))
+    (attended_then hosted c.args.manner g.D.Service.may g.K.Persist.prefetches g.K.Persist.persists g.K.Persist.waits g.K.Persist.shares g.K.Persist.holds grace _ _ _ _ _ _
+    (ok_holds c.iterate_all.result _ _ c.in-Ok.is (c.iterate_all.ensures.attended c.args.manner grace)) (c.in_ok-take_numbers-in-Ok.ensures.attended grace))
 
 pub returns-in_ok-take_numbers-in-Ok-clause-sent : goal.returns-in_ok-take_numbers-in-Ok-clause-sent
 returns-in_ok-take_numbers-in-Ok-clause-sent g c =

@@ -8,7 +8,7 @@ use Rattle.service_loop.proofs.hosting.Hosting.serve_all.Goals as goal
 pub returns-clause-attended : goal.returns-clause-attended
 returns-clause-attended g c =
     let grace = c.args.grace in
-    ok_then c.serve.result _ _ (attended_then hosted c.args.wide g.D.Service.may g.K.Persist.prefetches g.K.Persist.persists g.K.Persist.waits g.K.Persist.shares g.K.Persist.holds grace _ _ _ _ _ _ c.in_ok-end_stays.ensures.attended)
+    ok_then c.serve.result _ _ (attended_then hosted c.args.manner g.D.Service.may g.K.Persist.prefetches g.K.Persist.persists g.K.Persist.waits g.K.Persist.shares g.K.Persist.holds grace _ _ _ _ _ _ c.in_ok-end_stays.ensures.attended)
     (c.serve.ensures.attended grace)
 
 pub returns-clause-keepers : goal.returns-clause-keepers

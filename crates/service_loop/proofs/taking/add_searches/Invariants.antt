@@ -2,7 +2,7 @@ use Rattle.std.proofs.Common.{◌≡◌, ◌≤◌, ◌-◌, ◌++◌, ◌∷◌
 use Rattle.model_asked.specs.declared.event.Event.TheVariants as event
 use Rattle.text_lines.specs.Events.{event_lines}
 use Rattle.service_loop.specs.Searching.{searching}
-use Rattle.service_loop.proofs.taking.add_taking.Given as goal
+use Rattle.service_loop.proofs.taking.add_searches.Given as goal
 
 abbrev pub invariant-loop-said : goal.invariant-loop-said
 invariant-loop-said g l = record {
