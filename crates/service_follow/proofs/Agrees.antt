@@ -1,16 +1,18 @@
 -- what a hall says to an entry is determined
-use Rattle.std.proofs.Common.{◌≡◌, ◌≢◌, List, [], ◌∷◌, map, inl, inr, refl, sym, ap, subst, ◌∙◌}
+use Rattle.std.proofs.Common.{◌≡◌, ◌≢◌, ℕ, Option, Some, None, List, [], ◌∷◌, map, inl, inr, refl, sym, ap, subst, ◌∙◌}
 use Rattle.service_follow.proofs.Common.{ShownReply, NoneRefusedGrowth, Runs, Answered, Reported, Ended, Misread, HallState, HallApplies, said, reply_queue_of}
 use Rattle.model_steps.specs.declared.refusal.Refusal.TheVariants as refusal
 use Rattle.model_asked.specs.declared.event.Event.{Event}
+use Rattle.model_asked.specs.declared.event.Event.TheVariants.{Put}
 use Rattle.model_asked.specs.declared.reply.Reply.TheVariants as reply
 use Rattle.service_log.specs.Groups.{IsDetermined}
 use Rattle.text_player.specs.Turns.{Turn, asked}
 use Rattle.service_hall.specs.Halls.{HallMay}
+use Rattle.service_hall.specs.Raising.{PutsToken, held_value, token_above, token_reply}
 use Rattle.service_hall.specs.Reading.{Serves, TakesBy, way_of}
 use Rattle.service_hall.specs.declared.rules.Rules.{Rules}
 use Rattle.service_hall.specs.declared.rules.Way.{Way}
-use Rattle.service_hall.specs.declared.rules.Way.TheVariants.{Applied, Read, Barred}
+use Rattle.service_hall.specs.declared.rules.Way.TheVariants.{Applied, Read, Raised, Barred}
 use Rattle.service_follow.specs.Entries.{rules_of}
 
 -- where memory is not refused an event has one reply, and leaves one hall
@@ -19,9 +21,16 @@ one_answer h e r r' u u' (inl a) (inl b) g g' = (a.0 ∙ sym b.0, a.1 ∙ sym b.
 one_answer h e r r' u u' (inl a) (inr b) g g' = absurd (g' b.0)
 one_answer h e r r' u u' (inr a) b g g' = absurd (g a.0)
 
+one_token : (next : Option ℕ) (h : HallState) (p : ℕ) (r r' : ShownReply) (u u' : HallState) → PutsToken next h p r u → PutsToken next h p r' u' → r ≢ reply.Refused refusal.NoMemory → r' ≢ reply.Refused refusal.NoMemory → (r ≡ r') × (u ≡ u')
+one_token None h p r r' u u' a b g g' = (a.0 ∙ sym b.0, a.1 ∙ sym b.1)
+one_token (Some token) h p r r' u u' a b g g' =
+    let one = one_answer h (Put p token) a.0 b.0 u u' a.1 b.1 (λ is. g (a.2 ∙ ap (token_reply token) is)) (λ is. g' (b.2 ∙ ap (token_reply token) is)) in
+    (a.2 ∙ (ap (token_reply token) one.0 ∙ sym b.2), one.1)
+
 one_taken : (way : Way) (h : HallState) (e : Event) (r r' : ShownReply) (u u' : HallState) → TakesBy way h e r u → TakesBy way h e r' u' → r ≢ reply.Refused refusal.NoMemory → r' ≢ reply.Refused refusal.NoMemory → (r ≡ r') × (u ≡ u')
 one_taken Applied h e r r' u u' a b g g' = one_answer h e r r' u u' a b g g'
 one_taken (Read p) h e r r' u u' a b g g' = (a.0 ∙ sym b.0, a.1 ∙ sym b.1)
+one_taken (Raised p) h e r r' u u' a b g g' = one_token (token_above (held_value h p)) h p r r' u u' a b g g'
 one_taken Barred h e r r' u u' a b g g' = (a.0 ∙ sym b.0, a.1 ∙ sym b.1)
 
 -- runs of the same requests, in which memory is not refused, say the same and come to the same

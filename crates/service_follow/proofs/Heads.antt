@@ -49,18 +49,43 @@ none_ends (b ∷ bs) h =
       | inr e ↦ let rest : ends_none bs ≡ true = rw e.0 at h in All-cons P b bs e.1 (none_ends bs rest)
     ]
 
--- nor does what tells of the rules
+-- the rules that bytes tell which stand behind a token and a count
+abbrev bars_in : ℕ → List ℕ → Bool
+bars_in place behind = is_there (slice_get behind 0) 32 && (is_there (slice_get behind 6) 32 && is_there (slice_get behind place) 45)
+
+abbrev rules_in : List ℕ → Rules
+rules_in behind = record {
+  reads = if is_there (slice_get behind 0) 32 && is_there (slice_get behind 1) 112 then Plain else Logged;
+  widening = not (bars_in 7 behind);
+  naming = not (bars_in 8 behind);
+  tokens = is_there (slice_get behind 0) 32 && (is_there (slice_get behind 6) 32 && is_there (slice_get behind 9) 116);
+}
+
+-- what tells of the rules ends no line, and is read back
+told_so : (lines : List ℕ) (reads : Reads) (widening naming tokens : Bool) → (ends_none (told_by reads widening naming tokens) ≡ true) ×
+    (rules_in (told_by reads widening naming tokens ++ 10 ∷ lines) ≡ record { reads = reads; widening = widening; naming = naming; tokens = tokens })
+told_so lines Logged true true true = (refl, refl)
+told_so lines Logged true true false = (refl, refl)
+told_so lines Logged true false true = (refl, refl)
+told_so lines Logged true false false = (refl, refl)
+told_so lines Logged false true true = (refl, refl)
+told_so lines Logged false true false = (refl, refl)
+told_so lines Logged false false true = (refl, refl)
+told_so lines Logged false false false = (refl, refl)
+told_so lines Plain true true true = (refl, refl)
+told_so lines Plain true true false = (refl, refl)
+told_so lines Plain true false true = (refl, refl)
+told_so lines Plain true false false = (refl, refl)
+told_so lines Plain false true true = (refl, refl)
+told_so lines Plain false true false = (refl, refl)
+told_so lines Plain false false true = (refl, refl)
+told_so lines Plain false false false = (refl, refl)
+
+rules_back : (rules : Rules) (lines : List ℕ) → rules_in (told_of rules ++ 10 ∷ lines) ≡ rules
+rules_back rules lines = (told_so lines rules.reads rules.widening rules.naming rules.tokens).1
+
 told_plain : (rules : Rules) → All (λ b. b ≢ 10) (told_of rules)
-told_plain rules = none_ends (told_of rules) (by_kind rules.reads rules.widening rules.naming) where
-  by_kind : (reads : Reads) (widening naming : Bool) → ends_none (told_by reads widening naming) ≡ true
-  by_kind Logged true true = refl
-  by_kind Logged true false = refl
-  by_kind Logged false true = refl
-  by_kind Logged false false = refl
-  by_kind Plain true true = refl
-  by_kind Plain true false = refl
-  by_kind Plain false true = refl
-  by_kind Plain false false = refl
+told_plain rules = none_ends (told_of rules) (told_so [] rules.reads rules.widening rules.naming rules.tokens).0
 
 pub behind_batch : (rules : Rules) (token : List ℕ) (count : ℕ) (lines : List ℕ) → All (λ b. b ≢ 10) token → behind_first_line (batch_by rules token count lines) ≡ lines
 behind_batch rules token count lines plain =
@@ -112,29 +137,6 @@ fronts (x ∷ xs) (u ∷ us) ys vs long e =
 pub head_long : (token : List ℕ) (count : ℕ) → length (head_of token count) ≡ length token + 17
 head_long token count = let a = length-append token (32 ∷ hex_digits 16 count) in let b = digits_many 16 count in omega (arith, a, b)
 
--- the rules that bytes tell which stand behind a token and a count
-abbrev bars_in : ℕ → List ℕ → Bool
-bars_in place behind = is_there (slice_get behind 0) 32 && (is_there (slice_get behind 6) 32 && is_there (slice_get behind place) 45)
-
-abbrev rules_in : List ℕ → Rules
-rules_in behind = record {
-  reads = if is_there (slice_get behind 0) 32 && is_there (slice_get behind 1) 112 then Plain else Logged;
-  widening = not (bars_in 7 behind);
-  naming = not (bars_in 8 behind);
-}
-
-rules_back : (rules : Rules) (lines : List ℕ) → rules_in (told_of rules ++ 10 ∷ lines) ≡ rules
-rules_back rules lines = by_kind rules.reads rules.widening rules.naming where
-  by_kind : (reads : Reads) (widening naming : Bool) → rules_in (told_by reads widening naming ++ 10 ∷ lines) ≡ record { reads = reads; widening = widening; naming = naming }
-  by_kind Logged true true = refl
-  by_kind Logged true false = refl
-  by_kind Logged false true = refl
-  by_kind Logged false false = refl
-  by_kind Plain true true = refl
-  by_kind Plain true false = refl
-  by_kind Plain false true = refl
-  by_kind Plain false false = refl
-
 -- what stands behind the count tells of the rules, and ends there
 same_told : (rules others : Rules) (lines more : List ℕ) → told_of rules ++ 10 ∷ lines ≡ told_of others ++ 10 ∷ more → (rules ≡ others) × (lines ≡ more)
 same_told rules others lines more e =
@@ -168,7 +170,7 @@ told_rules rules token count lines long =
     let behind = told_of rules ++ 10 ∷ lines in
     let many : length head ≡ 49 = (let a = head_long token count in omega (arith, a, long)) in
     let at : (n : ℕ) → slice_get (head ++ behind) (49 + n) ≡ slice_get behind n = subst (λ (k : ℕ). (n : ℕ) → slice_get (head ++ behind) (k + n) ≡ slice_get behind n) many (byte_behind head behind) in
-    rw (at 0, at 1, at 6, at 7, at 8) (rules_back rules lines)
+    rw (at 0, at 1, at 6, at 7, at 8, at 9) (rules_back rules lines)
 
 -- one digit more
 pub digits_more : (k n : ℕ) → 1 ≤ k → hex_digits k n ≡ hex_digit (n % 16) ∷ hex_digits (k - 1) (n / 16)

@@ -14,3 +14,4 @@ mod Releasing
 mod Moves
 mod Refusals
 mod Readings
+mod TallyLemmas

@@ -189,17 +189,25 @@ module _ (token : List ℕ) (count : ℕ) (told : ToldTerms) (plain : All (λ b.
       let b = length-append head (told_of rules ++ 10 ∷ lines) in
       let c = length-append (told_of rules) (10 ∷ lines) in
       let d = ap length (behind_batch rules token count lines plain) in
-      let e = few rules.reads rules.widening rules.naming in
+      let e = few rules.reads rules.widening rules.naming rules.tokens in
       untold (batch_by rules token count lines) (omega (arith, a, b, c, d, e)) where
-        few : (reads : Reads) (widening naming : Bool) → length (told_by reads widening naming) < 10
-        few Logged true true = omega arith
-        few Logged true false = omega arith
-        few Logged false true = omega arith
-        few Logged false false = omega arith
-        few Plain true true = omega arith
-        few Plain true false = omega arith
-        few Plain false true = omega arith
-        few Plain false false = omega arith
+        few : (reads : Reads) (widening naming tokens : Bool) → length (told_by reads widening naming tokens) < 11
+        few Logged true true true = omega arith
+        few Logged true true false = omega arith
+        few Logged true false true = omega arith
+        few Logged true false false = omega arith
+        few Logged false true true = omega arith
+        few Logged false true false = omega arith
+        few Logged false false true = omega arith
+        few Logged false false false = omega arith
+        few Plain true true true = omega arith
+        few Plain true true false = omega arith
+        few Plain true false true = omega arith
+        few Plain true false false = omega arith
+        few Plain false true true = omega arith
+        few Plain false true false = omega arith
+        few Plain false false true = omega arith
+        few Plain false false false = omega arith
 
   pub terms_read : IsTermsRead token count told
   terms_read = record {

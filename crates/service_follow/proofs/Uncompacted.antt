@@ -6,20 +6,25 @@ use Rattle.service_follow.proofs.Common.{Config, HallState, HallApplies, NoneRef
 use Rattle.model_steps.specs.declared.refusal.Refusal.{Refusal}
 use Rattle.model_steps.specs.declared.refusal.Refusal.TheVariants as refusal
 use Rattle.model_asked.specs.declared.event.Event.{Event}
-use Rattle.model_asked.specs.declared.event.Event.TheVariants.{Get}
+use Rattle.model_asked.specs.declared.event.Event.TheVariants.{Get, Put}
 use Rattle.model_asked.specs.declared.exchange.Exchange.{Exchange}
 use Rattle.model_asked.specs.declared.reply.Reply.TheVariants as reply
 use Rattle.text_worlds.specs.desk.Desk.{desk_after, desk_refusal, desk_reply, fresh_desk, owner_reply}
+use Rattle.std.specs.Result.{result_unwrap_or}
+use Rattle.model_pool.specs.Pool.{number_answer}
 use Rattle.text_worlds.specs.desk.DeskCalls.{exchange}
+use Rattle.text_worlds.specs.desk.DeskRules.{fetched}
+use Rattle.text_worlds.specs.desk.Held.{slots_of}
 use Rattle.text_worlds.specs.desk.DeskValue.{DeskValue}
 use Rattle.text_player.specs.Turns.{asked}
 use Rattle.service_hall.specs.Compactions.{renaming_of}
 use Rattle.service_hall.specs.DeskParts.{is_renaming}
-use Rattle.service_hall.specs.Halls.{after_unless, desk_of, full_unless, hall_refusal, longer, reply_unless}
+use Rattle.service_hall.specs.Halls.{HallMay, after_unless, desk_of, full_unless, hall_refusal, longer, reply_unless}
+use Rattle.service_hall.specs.Raising.{PutsToken, held_value, token_above, token_reply}
 use Rattle.service_hall.specs.Reading.{Serves, TakesBy, way_of}
 use Rattle.service_hall.specs.declared.rules.Rules.{Rules}
 use Rattle.service_hall.specs.declared.rules.Way.{Way}
-use Rattle.service_hall.specs.declared.rules.Way.TheVariants.{Applied, Read, Barred}
+use Rattle.service_hall.specs.declared.rules.Way.TheVariants.{Applied, Read, Raised, Barred}
 use Rattle.service_hall.proofs.cited.Histories.{replay_push}
 use Rattle.service_log.specs.Replicas.{Leads}
 use Rattle.service_follow.specs.Batches.{next_count}
@@ -44,11 +49,19 @@ unless_grows : (o : Option Refusal) (h : HallState) (e : Event) → length h.his
 unless_grows None h e = let more = longer_by h e in omega (arith, more)
 unless_grows (Some why) h e = omega arith
 
+applied_grows : (h : HallState) (e : Event) (r : ShownReply) (u : HallState) → HallMay h e r u → length h.history ≤ length u.history
+applied_grows h e r u (inl m) = let same = ap (λ (s : HallState). length s.history) m.1 in let more = unless_grows (hall_refusal h e) h e in omega (arith, same, more)
+applied_grows h e r u (inr m) = let same = ap (λ (s : HallState). length s.history) m.1 in omega (arith, same)
+
+token_grows : (next : Option ℕ) (h : HallState) (p : ℕ) (r : ShownReply) (u : HallState) → PutsToken next h p r u → length h.history ≤ length u.history
+token_grows None h p r u refused = let same = ap (λ (s : HallState). length s.history) refused.1 in omega (arith, same)
+token_grows (Some token) h p r u puts = applied_grows h (Put p token) puts.0 u puts.1
+
 grows : (way : Way) (h : HallState) (e : Event) (r : ShownReply) (u : HallState) → TakesBy way h e r u → length h.history ≤ length u.history
 grows (Read p) h e r u may = let same = ap (λ (s : HallState). length s.history) may.1 in omega (arith, same)
 grows Barred h e r u may = let same = ap (λ (s : HallState). length s.history) may.1 in omega (arith, same)
-grows Applied h e r u (inl m) = let same = ap (λ (s : HallState). length s.history) m.1 in let more = unless_grows (hall_refusal h e) h e in omega (arith, same, more)
-grows Applied h e r u (inr m) = let same = ap (λ (s : HallState). length s.history) m.1 in omega (arith, same)
+grows (Raised p) h e r u may = token_grows (token_above (held_value h p)) h p r u may
+grows Applied h e r u may = applied_grows h e r u may
 
 runs_grow : (rules : Rules) (h u : HallState) (ts : List Turn) → Runs (Serves rules) h ts u → length h.history ≤ length u.history
 runs_grow rules h u [] run = let same = ap (λ (s : HallState). length s.history) run in omega (arith, same)
@@ -118,16 +131,33 @@ module _ (v h : HallState) (e : Event) (s r : ShownReply) (v' h' : HallState) (s
   by_refusal (Some why) sv av sh ah = (sh ∙ sym sv, subst (λ (w : HallState). IsRoomier w h') (sym av) (subst (λ (w : HallState). IsRoomier v w) (sym ah) so))
   by_refusal None sv av sh ah = by_room sv av sh ah
 
-  taken_so : (way : Way) → TakesBy way v e s v' → TakesBy way h e r h' → s ≢ reply.Refused refusal.NoMemory → r ≢ reply.Refused refusal.NoMemory → (r ≡ s) × IsRoomier v' h'
-  taken_so Barred a b g g' = (b.0 ∙ sym a.0, subst (λ (w : HallState). IsRoomier w h') (sym a.1) (subst (λ (w : HallState). IsRoomier v w) (sym b.1) so))
-  taken_so (Read p) a b g g' =
-      (b.0 ∙ (ap (λ (d : DeskValue). desk_reply d (Get p)) so.desk ∙ sym a.0), subst (λ (w : HallState). IsRoomier w h') (sym a.1) (subst (λ (w : HallState). IsRoomier v w) (sym b.1) so))
-  taken_so Applied (inl a) (inl b) g g' =
+  applied_so : HallMay v e s v' → HallMay h e r h' → s ≢ reply.Refused refusal.NoMemory → r ≢ reply.Refused refusal.NoMemory → (r ≡ s) × IsRoomier v' h'
+  applied_so (inl a) (inl b) g g' =
       let same : desk_refusal (desk_of h) e ≡ desk_refusal (desk_of v) e = ap (λ (d : DeskValue). desk_refusal d e) so.desk in
       by_refusal (desk_refusal (desk_of v) e) a.0 a.1
       (subst (λ (o : Option Refusal). r ≡ reply_unless (full_unless o (length h.history)) h e) same b.0) (subst (λ (o : Option Refusal). h' ≡ after_unless (full_unless o (length h.history)) h e) same b.1)
-  taken_so Applied (inl a) (inr b) g g' = absurd (g' b.0)
-  taken_so Applied (inr a) b g g' = absurd (g a.0)
+  applied_so (inl a) (inr b) g g' = absurd (g' b.0)
+  applied_so (inr a) b g g' = absurd (g a.0)
+
+-- halls that stay as they are
+stay_so : (v h v' h' : HallState) → IsRoomier v h → v' ≡ v → h' ≡ h → IsRoomier v' h'
+stay_so v h v' h' so one two = subst (λ (w : HallState). IsRoomier w h') (sym one) (subst (λ (w : HallState). IsRoomier v w) (sym two) so)
+
+token_so : (next : Option ℕ) (v h : HallState) (p : ℕ) (s r : ShownReply) (v' h' : HallState) → IsRoomier v h → length v'.history < 1000000 → PutsToken next v p s v' → PutsToken next h p r h' →
+    s ≢ reply.Refused refusal.NoMemory → r ≢ reply.Refused refusal.NoMemory → (r ≡ s) × IsRoomier v' h'
+token_so None v h p s r v' h' so free a b g g' = (b.0 ∙ sym a.0, stay_so v h v' h' so a.1 b.1)
+token_so (Some token) v h p s r v' h' so free a b g g' =
+    let one = applied_so v h (Put p token) a.0 b.0 v' h' so free a.1 b.1 (λ is. g (a.2 ∙ ap (token_reply token) is)) (λ is. g' (b.2 ∙ ap (token_reply token) is)) in
+    (b.2 ∙ (ap (token_reply token) one.0 ∙ sym a.2), one.1)
+
+taken_so : (v h : HallState) (e : Event) (s r : ShownReply) (v' h' : HallState) → IsRoomier v h → length v'.history < 1000000 → (way : Way) → TakesBy way v e s v' → TakesBy way h e r h' →
+    s ≢ reply.Refused refusal.NoMemory → r ≢ reply.Refused refusal.NoMemory → (r ≡ s) × IsRoomier v' h'
+taken_so v h e s r v' h' so free Barred a b g g' = (b.0 ∙ sym a.0, stay_so v h v' h' so a.1 b.1)
+taken_so v h e s r v' h' so free (Read p) a b g g' = (b.0 ∙ (ap (λ (d : DeskValue). desk_reply d (Get p)) so.desk ∙ sym a.0), stay_so v h v' h' so a.1 b.1)
+taken_so v h e s r v' h' so free (Raised p) a b g g' =
+    let held : DeskValue → Option ℕ = λ d. token_above (result_unwrap_or (fetched (slots_of d).values (number_answer (slots_of d).pool p)) 0) in
+    token_so (held (desk_of v)) v h p s r v' h' so free a (subst (λ (next : Option ℕ). PutsToken next h p r h') (ap held so.desk) b) g g'
+taken_so v h e s r v' h' so free Applied a b g g' = applied_so v h e s r v' h' so free a b g g'
 
 -- the same of runs by the same requests
 record AnswerAlike (us ts : List Turn) (v h : HallState) : Type 0 where

@@ -31,14 +31,20 @@ abbrev pub admission : Bool → ℕ → ℕ
 admission true letter = letter
 admission false letter = 45
 
--- what stands behind the count of a batch: whether its reads are plain, and where something is barred whether `widen` is admitted, and `begin` and `step`
-abbrev pub told_by : Reads → Bool → Bool → List ℕ
-told_by Logged true true = []
-told_by Plain true true = codes " plain"
-told_by reads widening naming = reads_word reads ++ 32 ∷ admission widening 119 ∷ admission naming 110 ∷ []
+-- a letter where tokens are given
+abbrev pub giving : Bool → List ℕ
+giving true = 116 ∷ []
+giving false = []
+
+-- what stands behind the count of a batch: whether its reads are plain, and where something is barred or tokens are given whether `widen` is admitted,
+-- and `begin` and `step`, and whether tokens are given
+abbrev pub told_by : Reads → Bool → Bool → Bool → List ℕ
+told_by Logged true true false = []
+told_by Plain true true false = codes " plain"
+told_by reads widening naming tokens = reads_word reads ++ 32 ∷ admission widening 119 ∷ admission naming 110 ∷ giving tokens
 
 abbrev pub told_of : Rules → List ℕ
-told_of rules = told_by rules.reads rules.widening rules.naming
+told_of rules = told_by rules.reads rules.widening rules.naming rules.tokens
 
 -- a batch by rules
 abbrev pub batch_by : Rules → List ℕ → ℕ → List ℕ → List ℕ

@@ -41,9 +41,13 @@ reads_of entry = if is_there (slice_get entry 49) 32 && is_there (slice_get entr
 abbrev pub bars : ℕ → List ℕ → Bool
 bars place entry = is_there (slice_get entry 49) 32 && (is_there (slice_get entry 55) 32 && is_there (slice_get entry place) 45)
 
--- the rules of an entry: whether its reads are plain, and whether it bars `widen`, or `begin` and `step`
+-- it gives tokens where a `t` stands behind these two places
+abbrev pub gives_tokens : List ℕ → Bool
+gives_tokens entry = is_there (slice_get entry 49) 32 && (is_there (slice_get entry 55) 32 && is_there (slice_get entry 58) 116)
+
+-- the rules of an entry: whether its reads are plain, whether it bars `widen`, or `begin` and `step`, and whether it gives tokens
 abbrev pub rules_of : List ℕ → Rules
-rules_of entry = record { reads = reads_of entry; widening = not (bars 56 entry); naming = not (bars 57 entry) }
+rules_of entry = record { reads = reads_of entry; widening = not (bars 56 entry); naming = not (bars 57 entry); tokens = gives_tokens entry }
 
 -- The hall was so, and answered what the lines of the entry ask for, in order, with no growth refused. It did so by the rules of the entry.
 -- The answers are on the queue of replies, and it is so

@@ -21,4 +21,5 @@ pub mod Releases
 pub mod Decided
 pub mod Silence
 pub mod Pauses
+pub mod Tallied
 pub mod lemmas

@@ -1,5 +1,5 @@
 -- the terms of a hall in a log: for how long stays go on there, and where the entries tell it
-use Rattle.std.specs.Prelude.{◌==◌, ◌&&◌, ◌+◌, ◌-◌, ◌<◌, ◌^◌, codes, decimal, min, nat_eq, nat_le, if◌then◌else◌, ℕ, List, [], ◌∷◌, ◌++◌, length, take, drop, slice_get, Option, Some, None}
+use Rattle.std.specs.Prelude.{◌≡◌, ◌==◌, ◌&&◌, ◌+◌, ◌-◌, ◌<◌, ◌^◌, codes, decimal, min, nat_eq, nat_le, if◌then◌else◌, ℕ, List, [], ◌∷◌, ◌++◌, length, take, drop, slice_get, Option, Some, None}
 use Rattle.std.specs.Cmp.Lexicographic.{pointwise}
 use Rattle.model_asked.specs.Config.{world_name}
 use Rattle.model_asked.specs.declared.config.Config.{Config}
@@ -14,6 +14,10 @@ use Rattle.service_follow.specs.declared.hall_terms.ToldTerms.{ToldTerms}
 abbrev pub grace_of : HallTerms → ℕ
 grace_of Forever = 0
 grace_of (Grace seconds) = seconds
+
+-- a longer grace time lasts until a second, and from then on it is the own one
+abbrev pub grace_at : ℕ → ℕ → ℕ → ℕ → ℕ
+grace_at longer until own now = if nat_le until now then own else longer
 
 -- the number that a text has for terms: 0 for forever, and else a second more than the grace
 abbrev pub terms_number : HallTerms → ℕ
@@ -55,6 +59,10 @@ config_text c =
 -- the first entry of a log of halls of a config, with the terms of the hall, or without in a log of an older version
 abbrev pub first_line_of : Config → Option ToldTerms → List ℕ
 first_line_of c told = config_text c ++ (told_text told ++ 10 ∷ [])
+
+-- an entry is the first line of a config, with the terms that it tells
+abbrev pub IsFirstLine : Config → List ℕ → Type 0
+IsFirstLine config entry = entry ≡ first_line_of config (terms_of entry)
 
 -- a log begins with the line of a config, with terms or without
 abbrev pub HasFirstLine : (ℕ → List ℕ → Type 0) → Config → Type 0

@@ -1,6 +1,7 @@
 //! Compactions that a front end offers.
 
-ghost use Rattle.std.specs.Prelude.{◌≡◌, ◌<◌, ◌≤◌, ◌++◌, ℕ, Some, true, length, IfOk, IfSome, OnOk};
+ghost use Rattle.std.specs.Prelude.{◌≡◌, ◌≢◌, ◌<◌, ◌≤◌, ◌++◌, ℕ, Some, true, false, length, IfOk, IfSome, Ok, OnOk};
+ghost use Rattle.service_log.specs.declared.replica.Step.TheVariants.{Answered};
 ghost use Rattle.service_follow.specs.Stays.{since_compaction};
 ghost use Rattle.service_follow.specs.Tellings.{HasToldAlone, IsDue, IsTold, first_entry, last_entry, more_entry, stay_text, stay_texts};
 
@@ -225,7 +226,10 @@ fn below_of(noted: Option<u64>, first: u64) -> Option<u64>
 }
 
 // Whether what was offered stands.
-fn is_answered(offered: Result<Step, Cause>) -> Result<bool, LogFault> {
+fn is_answered(offered: Result<Step, Cause>) -> Result<bool, LogFault>
+    ensures yes { result ≡ Ok true → offered ≡ Ok Answered }
+    ensures no { result ≡ Ok false → offered ≢ Ok Answered }
+{
     let stands = matches!(offered, Ok(Step::Answered));
     LogFault::unless_gone(offered)?;
     Ok(stands)
@@ -247,7 +251,10 @@ impl Work {
 
 impl Compaction {
     /// Makes one of the front end of this token.
-    pub(crate) fn new(alloc: Global, token: [u8; 32]) -> Compaction {
+    pub(crate) fn new(alloc: Global, token: [u8; 32]) -> Compaction
+        ensures token { result.token ≡ token }
+        ensures due { result.due ≡ record { events = 450001; entries = 10000 } }
+    {
         Compaction {
             alloc,
             token,
@@ -263,13 +270,19 @@ impl Compaction {
     }
 
     /// Has the next compaction be due at so many events, and those of others be minded from there on.
-    pub(crate) fn be_due_at(&mut self, events: usize) {
+    pub(crate) fn be_due_at(&mut self, events: usize)
+        ensures due { (self.new.due ≡ record self.old.due { events = events }) × (self.new.compactor.due ≡ events) }
+        ensures token { self.new.token ≡ self.old.token }
+    {
         self.compactor = Compactor::at(events);
         self.due.events = events;
     }
 
     /// Has a compaction be due at so many entries since the last one, too.
-    pub(crate) fn be_due_at_entries(&mut self, entries: u64) {
+    pub(crate) fn be_due_at_entries(&mut self, entries: u64)
+        ensures due { self.new.due ≡ record self.old.due { entries = entries } }
+        ensures token { self.new.token ≡ self.old.token }
+    {
         self.due.entries = entries;
         self.delay = 0;
     }

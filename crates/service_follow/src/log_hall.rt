@@ -20,6 +20,7 @@ use model_asked::Config;
 use model_steps::Refusal;
 use service_hall::Hall;
 use service_log::{Cause, Replica, ServeFault, Step, Store, StoreFault, law_of_following};
+use service_loop::Feed;
 use std::alloc::Global;
 use std::marker::Model;
 
@@ -160,6 +161,11 @@ impl<S: Store> LogHall<S> {
     /// Returns how many compactions were read to their end since it started. Not proved.
     pub(crate) fn compactions(&self) -> u64 {
         self.replica.machine().compactions()
+    }
+
+    /// Returns what the entries changed of who holds numbers. Not proved.
+    pub(crate) fn changes(&self) -> &Feed {
+        self.replica.machine().changes()
     }
 
     /// Returns the terms of the hall, as the entry told that told some last. Not proved.

@@ -1,18 +1,20 @@
 //! Serves the clients of one front end over a log.
 
-ghost use Rattle.std.specs.Prelude.{◌≡◌, ◌≢◌, ◌↔◌, ◌==◌, ◌+◌, ◌-◌, ◌++◌, ◌<◌, ◌≤◌, ◌⊎◌, ℕ, [], true, false, ltb, map, None, Ok, Err, OnOk, IfOk, IfSome, All};
+ghost use Rattle.std.specs.Prelude.{◌≡◌, ◌≢◌, ◌↔◌, ◌==◌, ◌+◌, ◌-◌, ◌++◌, ◌<◌, ◌≤◌, ◌⊎◌, ℕ, [], true, false, ltb, map, None, Some, Ok, Err, OnOk, IfOk, IfSome, All};
 ghost use Rattle.std.specs.List.{list_any};
 ghost use Rattle.std.specs.String.{string_bytes};
 ghost use Rattle.service_log.specs.Places.{Keeps, Same};
 ghost use Rattle.service_follow.specs.Batches.{batch_by, batch_of, head_of, hex_digit, hex_digits, next_count, told_of};
 ghost use Rattle.service_follow.specs.Decided.{AddsBatch, HasLooked, IsDecided, next_read, release_lines};
-ghost use Rattle.service_hall.specs.declared.reads.Reads.TheVariants.{Plain};
+ghost use Rattle.service_hall.specs.Reading.{all_admitted};
+ghost use Rattle.service_hall.specs.declared.reads.Reads.TheVariants.{Logged, Plain};
 ghost use Rattle.service_follow.specs.Hosted.{HasAppliedAll, HasGoneOn, HasMovedOn, IsAtEnd, IsOpened, IsPrefetchedBy, IsReadBy, IsServed};
 ghost use Rattle.service_follow.specs.Pauses.{IsSpent};
 ghost use Rattle.service_follow.specs.Readings.{are_reads, read_by, requested, requests_in};
 ghost use Rattle.service_follow.specs.Said.{reply_queue_of};
 ghost use Rattle.service_follow.specs.Stays.{since_compaction};
-ghost use Rattle.service_follow.specs.Terms.{HasFirstLine, change_entry, config_text, first_line_of, grace_of, terms_of};
+ghost use Rattle.service_follow.specs.Tallied.{IsTallyOf};
+ghost use Rattle.service_follow.specs.Terms.{HasFirstLine, IsFirstLine, change_entry, config_text, first_line_of, grace_at, grace_of};
 ghost use Rattle.service_follow.specs.TermsChanges.{HasChangedAlone};
 ghost use Rattle.service_follow.specs.Watched.{watched};
 
@@ -32,7 +34,7 @@ use crate::tallying::{room_of, tally_of};
 use model_asked::Config;
 use service_hall::{Hall, Reads, Rules};
 use service_log::{Cause, MOST_BATCH, MOST_PLACES, ServeFault, Step, Store, StoreFault};
-use service_loop::{Persist, Prefetch, Tally};
+use service_loop::{Feed, Persist, Prefetch, Tally};
 use std::alloc::{AllocError, Allocator, Global};
 use text_lines::held::{HeldQuery, put_held};
 use text_player::Replies;
@@ -40,8 +42,8 @@ use text_player::Replies;
 /// What ends a line.
 const LF: u8 = 10;
 
-/// How many bytes the first line of a batch has, at most: a token, a count, ` plain --` and its LF.
-const HEAD: usize = 59;
+/// How many bytes the first line of a batch has, at most: a token, a count, ` plain --t` and its LF.
+const HEAD: usize = 60;
 
 /// How often a store is asked for one batch, at most; a `Pause` ends it before.
 const MOST_TRIES: u32 = 1_000_000;
@@ -157,15 +159,23 @@ pub(crate) fn put_head(head: &mut Vec<u8>, token: &[u8], count: u64) -> Result<(
 fn told_of(rules: Rules) -> &'static [u8]
     ensures { result.now ≡ told_of rules }
 {
-    match (rules.reads, rules.widening, rules.naming) {
-        (Reads::Logged, true, true) => b"",
-        (Reads::Logged, true, false) => b" whole w-",
-        (Reads::Logged, false, true) => b" whole -n",
-        (Reads::Logged, false, false) => b" whole --",
-        (Reads::Plain, true, true) => b" plain",
-        (Reads::Plain, true, false) => b" plain w-",
-        (Reads::Plain, false, true) => b" plain -n",
-        (Reads::Plain, false, false) => b" plain --",
+    match (rules.reads, rules.widening, rules.naming, rules.tokens) {
+        (Reads::Logged, true, true, false) => b"",
+        (Reads::Logged, true, true, true) => b" whole wnt",
+        (Reads::Logged, true, false, false) => b" whole w-",
+        (Reads::Logged, true, false, true) => b" whole w-t",
+        (Reads::Logged, false, true, false) => b" whole -n",
+        (Reads::Logged, false, true, true) => b" whole -nt",
+        (Reads::Logged, false, false, false) => b" whole --",
+        (Reads::Logged, false, false, true) => b" whole --t",
+        (Reads::Plain, true, true, false) => b" plain",
+        (Reads::Plain, true, true, true) => b" plain wnt",
+        (Reads::Plain, true, false, false) => b" plain w-",
+        (Reads::Plain, true, false, true) => b" plain w-t",
+        (Reads::Plain, false, true, false) => b" plain -n",
+        (Reads::Plain, false, true, true) => b" plain -nt",
+        (Reads::Plain, false, false, false) => b" plain --",
+        (Reads::Plain, false, false, true) => b" plain --t",
     }
 }
 
@@ -209,13 +219,14 @@ fn first_line(alloc: Global, config: Config, told: Option<ToldTerms>) -> Result<
     Ok(line)
 }
 
-/// Returns true only if an entry is the first one of a log of halls of this config, with terms or without.
+/// Returns true if and only if an entry is the first one of a log of halls of this config, with terms or without.
 ///
 /// # Errors
 ///
 /// `AllocError`: an allocation failed.
 pub fn is_first_line(alloc: Global, config: Config, entry: &[u8]) -> Result<bool, AllocError>
-    ensures { result ≡ Ok true → entry.now ≡ first_line_of config (terms_of entry.now) }
+    ensures first { result ≡ Ok true → IsFirstLine config entry.now }
+    ensures other { result ≡ Ok false → ¬ (IsFirstLine config entry.now) }
 {
     let line = first_line(alloc, config, terms_of(entry))?;
     Ok(line.as_slice() == entry)
@@ -253,6 +264,8 @@ impl<S: Store + Drop, T: Pause + Drop> LogPersister<S, T> {
     ) -> Result<LogPersister<S, T>, LogFault>
         ensures grace { IfOk result (λ k. grace_of terms ≤ k.sessions.grace) }
         ensures opened { IfOk result (λ k. IsOpened S.stands S.lacks config k.log) }
+        ensures own { IfOk result (λ k. (k.token ≡ token) × (k.count ≡ 0) × (k.rules ≡ all_admitted Logged)) }
+        ensures compacts { IfOk result (λ k. (k.compaction.token ≡ token) × (k.compaction.due ≡ record { events = 450001; entries = 10000 })) }
         ensures token { result ≡ Err LogFault.Token ↔ (list_any (λ b. b == 10) token ≡ true) }
     {
         let mut persister = match LogPersister::open_any(
@@ -290,6 +303,8 @@ impl<S: Store + Drop, T: Pause + Drop> LogPersister<S, T> {
     ) -> Result<LogPersister<S, T>, LogFault>
         ensures opened { IfOk result (λ k. IsOpened S.stands S.lacks config k.log) }
         ensures terms { IfOk result (λ k. k.terms ≡ terms) }
+        ensures own { IfOk result (λ k. (k.token ≡ token) × (k.count ≡ 0) × (k.rules ≡ all_admitted Logged)) }
+        ensures compacts { IfOk result (λ k. (k.compaction.token ≡ token) × (k.compaction.due ≡ record { events = 450001; entries = 10000 })) }
         ensures token { result ≡ Err LogFault.Token ↔ (list_any (λ b. b == 10) token ≡ true) }
     {
         if token.contains(&LF) {
@@ -348,6 +363,8 @@ impl<S: Store, T: Pause> LogPersister<S, T> {
         ensures known { OnOk result (self.new.log.stays.machine.blind ≡ false) }
         ensures config { OnOk result (self.new.log.config ≡ self.old.log.config) }
         ensures terms { self.new.terms ≡ self.old.terms }
+        ensures own { (self.new.token ≡ self.old.token) × (self.new.count ≡ self.old.count) × (self.new.rules ≡ self.old.rules) ×
+            (self.new.compaction ≡ self.old.compaction) }
     {
         self.begin(config, line)?;
         self.apply_hinted()?;
@@ -362,6 +379,8 @@ impl<S: Store, T: Pause> LogPersister<S, T> {
         ensures all { OnOk result (IsAtEnd (S.lacks self.new.log.store) self.new.log.replica.place) }
         ensures config { OnOk result (self.new.log.config ≡ self.old.log.config) }
         ensures terms { self.new.terms ≡ self.old.terms }
+        ensures own { (self.new.token ≡ self.old.token) × (self.new.count ≡ self.old.count) × (self.new.rules ≡ self.old.rules) ×
+            (self.new.compaction ≡ self.old.compaction) }
     {
         let noted = self.log.hint().unwrap_or(0);
         let place = noted.max(self.log.trimmed());
@@ -379,6 +398,8 @@ impl<S: Store, T: Pause> LogPersister<S, T> {
         ensures known { OnOk result (self.new.log.stays.machine.blind ≡ false) }
         ensures config { OnOk result (self.new.log.config ≡ self.old.log.config) }
         ensures terms { self.new.terms ≡ self.old.terms }
+        ensures own { (self.new.token ≡ self.old.token) × (self.new.count ≡ self.old.count) × (self.new.rules ≡ self.old.rules) ×
+            (self.new.compaction ≡ self.old.compaction) }
     {
         if !self.log.is_blind() {
             return Ok(());
@@ -395,7 +416,8 @@ impl<S: Store, T: Pause> LogPersister<S, T> {
     // Returns an error unless the line with which the log begins, which was read last, is of this config.
     fn check_first_line(&self, config: Config) -> Result<(), LogFault>
         ensures other { result ≢ Err LogFault.Token }
-        ensures line { OnOk result (self.now.batch.items ≡ first_line_of config (terms_of self.now.batch.items)) }
+        ensures line { OnOk result (IsFirstLine config self.now.batch.items) }
+        ensures others { result ≡ Err LogFault.OtherConfig → ¬ (IsFirstLine config self.now.batch.items) }
     {
         match is_first_line(self.alloc, config, &self.batch) {
             Ok(true) => Ok(()),
@@ -410,6 +432,8 @@ impl<S: Store, T: Pause> LogPersister<S, T> {
         ensures begins { OnOk result (HasFirstLine (S.stands self.new.log.store) config) }
         ensures config { self.new.log.config ≡ self.old.log.config }
         ensures terms { self.new.terms ≡ self.old.terms }
+        ensures own { (self.new.token ≡ self.old.token) × (self.new.count ≡ self.old.count) × (self.new.rules ≡ self.old.rules) ×
+            (self.new.compaction ≡ self.old.compaction) }
     {
         self.pause.begin();
         for _ in 0..MOST_TRIES {
@@ -434,6 +458,8 @@ impl<S: Store, T: Pause> LogPersister<S, T> {
         ensures moved { HasMovedOn S.stands self.old.log self.new.log }
         ensures all { OnOk result (IsAtEnd (S.lacks self.new.log.store) self.new.log.replica.place) }
         ensures terms { self.new.terms ≡ self.old.terms }
+        ensures own { (self.new.token ≡ self.old.token) × (self.new.count ≡ self.old.count) × (self.new.rules ≡ self.old.rules) ×
+            (self.new.compaction ≡ self.old.compaction) }
     {
         let mut reply_queue = ReplyQueue::new(self.alloc);
         self.pause.begin();
@@ -473,6 +499,8 @@ impl<S: Store, T: Pause> LogPersister<S, T> {
     fn take_terms(&mut self) -> Result<(), LogFault>
         ensures other { result ≢ Err LogFault.Token }
         ensures same { (self.new.log ≡ self.old.log) × (self.new.terms ≡ self.old.terms) }
+        ensures own { (self.new.token ≡ self.old.token) × (self.new.count ≡ self.old.count) × (self.new.rules ≡ self.old.rules) ×
+            (self.new.compaction ≡ self.old.compaction) }
         ensures grace { OnOk result (grace_of self.old.terms ≤ self.new.sessions.grace) }
     {
         self.check_terms()?;
@@ -493,7 +521,8 @@ impl<S: Store, T: Pause> LogPersister<S, T> {
     // Takes the grace time of its own terms, once the longer one of those before has lasted for long enough.
     fn shorten_grace(&mut self)
         ensures log { (self.new.log ≡ self.old.log) × (self.new.count ≡ self.old.count) × (self.new.token ≡ self.old.token) }
-        ensures grace { (self.new.sessions.grace ≡ self.old.sessions.grace) ⊎ (self.new.sessions.grace ≡ grace_of self.old.terms) }
+        ensures grace { (now : ℕ) × T.tells self.old.pause now ×
+            (self.new.sessions.grace ≡ grace_at self.old.sessions.grace self.old.longer_until (grace_of self.old.terms) now) }
     {
         if self.longer_until <= self.pause.seconds() {
             self.sessions.grace = self.terms.grace();
@@ -662,14 +691,16 @@ impl<S: Store, T: Pause> LogPersister<S, T> {
 
     /// Has the next compaction that this front end offers be due at so many events. It is due at 450,001 until this is called.
     pub fn compact_at(&mut self, events: usize)
-        ensures { (self.new.log ≡ self.old.log) × (self.new.count ≡ self.old.count) × (self.new.token ≡ self.old.token) × (self.new.rules ≡ self.old.rules) }
+        ensures due { (self.new.compaction.due ≡ record self.old.compaction.due { events = events }) × (self.new.compaction.token ≡ self.old.compaction.token) }
+        ensures same { (self.new.log ≡ self.old.log) × (self.new.count ≡ self.old.count) × (self.new.token ≡ self.old.token) × (self.new.rules ≡ self.old.rules) }
     {
         self.compaction.be_due_at(events);
     }
 
     /// Has a compaction be due at so many entries since the last one, too. It is due at 10,000 until this is called.
     pub fn compact_at_entries(&mut self, entries: u64)
-        ensures { (self.new.log ≡ self.old.log) × (self.new.count ≡ self.old.count) × (self.new.token ≡ self.old.token) × (self.new.rules ≡ self.old.rules) }
+        ensures due { (self.new.compaction.due ≡ record self.old.compaction.due { entries = entries }) × (self.new.compaction.token ≡ self.old.compaction.token) }
+        ensures same { (self.new.log ≡ self.old.log) × (self.new.count ≡ self.old.count) × (self.new.token ≡ self.old.token) × (self.new.rules ≡ self.old.rules) }
     {
         self.compaction.be_due_at_entries(entries);
     }
@@ -1025,8 +1056,14 @@ impl<S: Store, T: Pause> Persist<ReplyQueue> for LogPersister<S, T> {
         self.log.hall().slots().pool().stay_of(identity).is_some()
     }
 
-    fn may_answer_stays(&self) -> bool {
+    fn may_answer_stays(&self) -> bool
+        ensures clock { (now : ℕ) × T.tells self.now.pause now × (result ≡ ltb (now - self.now.sessions.sent) 20) }
+    {
         LogPersister::may_answer_stays(self)
+    }
+
+    fn changes(&self) -> Option<&Feed> {
+        Some(self.log.changes())
     }
 
     fn trouble(&self) -> Option<&'static str> {
@@ -1040,7 +1077,12 @@ impl<S: Store, T: Pause> Persist<ReplyQueue> for LogPersister<S, T> {
         self.lasting.tenths()
     }
 
-    fn tally(&self, _reply_queue: &ReplyQueue) -> Tally {
+    fn tally(&self, _reply_queue: &ReplyQueue) -> Tally
+        ensures hall { IsTallyOf self.now.log.replica.machine result.events result.events_left result.competitors result.numbers_free result.names_given }
+        ensures place { result.log_place ≡ Some self.now.log.replica.place }
+        ensures since { result.log_since_compaction ≡ Some (since_compaction self.now.log.stays.machine) }
+        ensures answers { result.log_answers ≡ Some self.now.answers }
+    {
         Tally {
             log_place: Some(self.log.place()),
             log_since_compaction: Some(self.log.entries_since_compaction()),

@@ -3,7 +3,7 @@
 ghost use Rattle.std.specs.Prelude.{◌≡◌, ◌⊎◌, ◌↔◌, ◌+◌, ◌<◌, [], false, IfErr, IfOk, OnOk, Err};
 ghost use Rattle.model_asked.specs.Config.{gives_names};
 ghost use Rattle.service_hall.specs.Halls.{hall_of};
-ghost use Rattle.service_follow.specs.Entries.{HallApplies, TakesBytes, bars, behind_first_line, reads_of, rules_of};
+ghost use Rattle.service_follow.specs.Entries.{HallApplies, TakesBytes, bars, behind_first_line, gives_tokens, reads_of, rules_of};
 ghost use Rattle.text_player.specs.Knows.{Knows};
 ghost use Rattle.service_follow.specs.Said.{reply_queue_of};
 
@@ -78,6 +78,13 @@ fn bars(entry: &[u8], place: usize) -> bool
     is_there(entry, MARK, b' ') && is_there(entry, BARS, b' ') && is_there(entry, place, b'-')
 }
 
+/// Whether an entry gives tokens, as its first line says.
+fn gives_tokens(entry: &[u8]) -> bool
+    ensures { result ≡ gives_tokens entry.now }
+{
+    is_there(entry, MARK, b' ') && is_there(entry, BARS, b' ') && is_there(entry, BARS + 3, b't')
+}
+
 /// The rules by which the lines of an entry are played, as its first line says.
 fn rules_of(entry: &[u8]) -> Rules
     ensures { result ≡ rules_of entry.now }
@@ -86,6 +93,7 @@ fn rules_of(entry: &[u8]) -> Rules
         reads: reads_of(entry),
         widening: !bars(entry, BARS + 1),
         naming: !bars(entry, BARS + 2),
+        tokens: gives_tokens(entry),
     }
 }
 

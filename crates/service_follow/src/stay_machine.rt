@@ -27,12 +27,14 @@ use crate::hall_terms::{ToldTerms, terms_of};
 use crate::keeping::Keeping;
 use crate::machine::HallMachine;
 use crate::marks::{BEFORE, Mark, entries_in, head_at, kept_in, mark_of};
+use crate::note::{Asked, Note};
 use crate::reply_queue::ReplyQueue;
 use crate::retelling::is_retold;
 use model_asked::Config;
 use model_steps::Refusal;
 use service_hall::Hall;
 use service_log::{ApplyFault, Machine};
+use service_loop::Feed;
 use std::alloc::Global;
 use std::marker::Model;
 
@@ -60,6 +62,8 @@ pub struct StayMachine {
     compacted: u64,
     /// The terms of the hall, as the entry told that told some last.
     terms: Option<ToldTerms>,
+    /// What entries changed of who holds numbers.
+    changes: Feed,
 }
 
 impl Model for StayMachine {
@@ -75,6 +79,15 @@ impl Model for StayMachine {
       gathered = m.gathered;
       blind = m.blind;
     } };
+}
+
+// Notes what requests changed of who holds numbers.
+fn note_changes(changes: &mut Feed, notes: &[Note]) {
+    for note in notes {
+        if let Asked::ToTake(event) = note.asked() {
+            changes.note(event, &note.reply());
+        }
+    }
 }
 
 impl StayMachine {
@@ -95,6 +108,7 @@ impl StayMachine {
             compactions: 0,
             compacted: 0,
             terms: None,
+            changes: Feed::new(alloc),
         })
     }
 
@@ -184,6 +198,11 @@ impl StayMachine {
         self.terms
     }
 
+    /// Returns what the entries changed of who holds numbers, from the place on at which it began. Not proved.
+    pub(crate) fn changes(&self) -> &Feed {
+        &self.changes
+    }
+
     // Notes what an entry tells of the terms of the hall, whatever else is known.
     fn note_terms(&mut self, entry: &[u8])
         ensures { self.new ≡ self.old }
@@ -209,6 +228,7 @@ impl StayMachine {
     {
         let _ = self.gathered.take();
         self.halls.apply(entry, reply_queue)?;
+        note_changes(&mut self.changes, reply_queue.notes());
         match self.keeping.learn(&token_of(entry), reply_queue.notes()) {
             Ok(()) => Ok(()),
             Err(_) => Err(ApplyFault::Memory),
