@@ -5,6 +5,7 @@ use Rattle.std.specs.Io.KnownBytes.{Appends, Consumes}
 use Rattle.model_steps.specs.declared.refusal.Refusal.{Refusal}
 use Rattle.model_asked.specs.declared.config.Config.{Config}
 use Rattle.model_asked.specs.declared.event.Event.{Event}
+use Rattle.model_asked.specs.declared.event.Event.TheVariants.{Put}
 use Rattle.model_asked.specs.declared.exchange.Exchange.{Exchange}
 use Rattle.model_asked.specs.Replies.{ShownReply}
 use Rattle.text_checker.specs.Migrated.{record_text}
@@ -17,11 +18,12 @@ use Rattle.text_player.specs.Turns.{Turn, exchanges}
 use Rattle.text_player.specs.Turns.Turn.{Answered, Reported, Ended, Misread}
 use Rattle.service_hall.specs.Halls.{HallMay, SatisfiesSpec, after_unless, hall_refusal}
 use Rattle.service_hall.specs.HallState.{HallState}
+use Rattle.service_hall.specs.Raising.{PutsToken, held_value, token_above}
 use Rattle.service_hall.specs.Reading.{Serves, TakesBy, stored, way_of}
 use Rattle.service_hall.specs.Serving.{HallServes, accepted}
 use Rattle.service_hall.specs.declared.rules.Rules.{Rules}
 use Rattle.service_hall.specs.declared.rules.Way.{Way}
-use Rattle.service_hall.specs.declared.rules.Way.TheVariants.{Applied, Read, Barred}
+use Rattle.service_hall.specs.declared.rules.Way.TheVariants.{Applied, Read, Raised, Barred}
 use Rattle.service_journal.specs.declared.journal.Journal.{Journal}
 use Rattle.service_journal.specs.WriteAheadState.{WriteAheadState}
 use Rattle.service_journal.specs.WriteAheads.{write_ahead_of, reported_record}
@@ -44,8 +46,13 @@ config_may : (h u : HallState) (e : Event) (r : ShownReply) → HallMay h e r u 
 config_may h u e r (inl done) = ap (λ (x : HallState). x.config) done.1 ∙ config_after (hall_refusal h e) h e
 config_may h u e r (inr refused) = ap (λ (x : HallState). x.config) refused.1
 
+config_token : (next : Option ℕ) (h u : HallState) (p : ℕ) (r : ShownReply) → PutsToken next h p r u → u.config ≡ h.config
+config_token None h u p r refused = ap (λ (x : HallState). x.config) refused.1
+config_token (Some token) h u p r puts = config_may h u (Put p token) puts.0 puts.1
+
 config_takes : (way : Way) (h u : HallState) (e : Event) (r : ShownReply) → TakesBy way h e r u → u.config ≡ h.config
 config_takes (Read p) h u e r may = ap (λ (x : HallState). x.config) may.1
+config_takes (Raised p) h u e r may = config_token (token_above (held_value h p)) h u p r may
 config_takes Barred h u e r may = ap (λ (x : HallState). x.config) may.1
 config_takes Applied h u e r may = config_may h u e r may
 

@@ -5,3 +5,5 @@ mod ExportLemmas
 mod ServedLemmas
 mod FreeingLemmas
 mod WideningLemmas
+mod SizeLemmas
+mod PoolFileLemmas

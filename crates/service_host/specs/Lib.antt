@@ -8,3 +8,5 @@ pub mod Freeing
 pub mod Sizes
 pub mod Widened
 pub mod lemmas
+pub mod Plans
+pub mod PoolFile

@@ -1,5 +1,8 @@
 //! Why a hall is not hosted, or no more.
 
+ghost use Rattle.std.specs.Prelude.{◌≡◌};
+ghost use Rattle.service_host.specs.declared.failure.HostFailure.TheVariants as failure;
+
 use model_steps::{NoMemory, Refusal};
 use service_follow::{HallTerms, LogFault};
 use service_journal::{Disk, DiskFault, FileFault, JournalFault, NotOpened, OpenFault};
@@ -175,6 +178,8 @@ impl From<Refusal> for HostFailure {
 }
 
 impl From<AllocError> for HostFailure {
+    ghost from_gives = { λ _ told. told ≡ failure.Memory };
+
     fn from(_refused: AllocError) -> HostFailure {
         HostFailure::Memory
     }

@@ -1,5 +1,11 @@
 //! The pools of a server, as a file lists them.
 
+ghost use Rattle.std.specs.Prelude.{◌≡◌, ◌≤◌, ◌==◌, ◌++◌, ◌∷◌, [], ℕ, true, false, List, Option, Some, None, Ok, Err, IfOk, IfSome};
+ghost use Rattle.std.specs.List.{slice_split};
+ghost use Rattle.text_lines.specs.Meaning.{number_in};
+ghost use Rattle.service_host.specs.declared.pool_file.PoolPlan.{PoolPlan};
+ghost use Rattle.service_host.specs.PoolFile.{AreListed, GivesGrace, GivesGraceElse, HasNone, ListsPool, saying, says_nothing, words_in};
+
 use crate::failure::HostFailure;
 use service_loop::pool_line::is_pool_name;
 use std::alloc::{AllocError, Global};
@@ -26,24 +32,40 @@ pub struct PoolPlan<'a> {
 }
 
 // The number that a word writes, from 1 to this most.
-fn number_to(word: &str, most: u64) -> Option<u64> {
+fn number_to(word: &str, most: u64) -> Option<u64>
+    ensures some { IfSome result (λ n. (number_in word.now ≡ Some n) × (1 ≤ n) × (n ≤ most)) }
+    ensures none { result ≡ None → (n : ℕ) → number_in word.now ≡ Some n → 1 ≤ n → ¬ (n ≤ most) }
+{
     match number(word.as_bytes()) {
         Some(value) if 1 <= value && value <= most => Some(value),
         _ => None,
     }
 }
 
-// The grace time that a word gives, or this one where there is no word.
-fn grace_of(word: Option<&str>, grace: Option<u64>) -> Option<Option<u64>> {
+// The grace time that a word gives.
+fn grace_in(word: &str) -> Option<Option<u64>>
+    ensures { IfSome result (GivesGrace word.now) }
+{
+    if word == "forever" {
+        return Some(None);
+    }
+    Some(Some(number_to(word, MOST_GRACE)?))
+}
+
+// The same, or this one where there is no word.
+fn grace_of(word: Option<&str>, grace: Option<u64>) -> Option<Option<u64>>
+    ensures { IfSome result (GivesGraceElse grace word.entry) }
+{
     match word {
         None => Some(grace),
-        Some("forever") => Some(None),
-        Some(word) => Some(Some(number_to(word, MOST_GRACE)?)),
+        Some(word) => grace_in(word),
     }
 }
 
 // The pool of a line: its name, its numbers, and `forever` or the seconds of its grace, which has this one else.
-fn pool_of_line<'a>(line: &'a str, grace: Option<u64>) -> Option<PoolPlan<'a>> {
+fn pool_of_line<'a>(line: &'a str, grace: Option<u64>) -> Option<PoolPlan<'a>>
+    ensures { IfSome result (ListsPool grace (words_in line.entry.now)) }
+{
     let mut words = line.split_ascii_whitespace();
     let name = words.next()?;
     let size = number_to(words.next()?, MOST_NUMBERS)?;
@@ -54,17 +76,26 @@ fn pool_of_line<'a>(line: &'a str, grace: Option<u64>) -> Option<PoolPlan<'a>> {
     Some(PoolPlan { name, size, grace })
 }
 
-// Whether a line says nothing: it is empty, or a remark.
-fn is_silent(line: &str) -> bool {
-    match line.trim_ascii().as_bytes().first() {
+// Whether a line says nothing: it has no word, or is a remark.
+fn is_silent(line: &str) -> bool
+    ensures { result ≡ says_nothing (words_in line.now) }
+{
+    match line.split_ascii_whitespace().next() {
         None => true,
-        Some(byte) => *byte == REMARK,
+        Some(word) => word.as_bytes()[0] == REMARK,
     }
 }
 
 // Whether a pool of this name is among these.
-fn has_name(pools: &[PoolPlan<'_>], name: &str) -> bool {
-    pools.iter().any(|pool| pool.name == name)
+fn has_name(pools: &[PoolPlan<'_>], name: &str) -> bool
+    ensures { result ≡ false → HasNone pools.now name.now }
+{
+    for pool in pools {
+        if pool.name == name {
+            return true;
+        }
+    }
+    false
 }
 
 // The pool of a line is added to those before it, where it has a name of its own. Says whether it was.
@@ -72,7 +103,10 @@ fn add_line<'a>(
     pools: &mut Vec<PoolPlan<'a>>,
     line: &'a str,
     grace: Option<u64>,
-) -> Result<bool, AllocError> {
+) -> Result<bool, AllocError>
+    ensures added { result ≡ Ok true → (pool : PoolPlan) × (pools.new.items ≡ pools.old.items ++ pool ∷ []) × ListsPool grace (words_in line.now) pool ×
+        HasNone pools.old.items pool.name.now }
+{
     match pool_of_line(line, grace) {
         Some(pool) if !has_name(pools, pool.name) => {
             pools.push(pool)?;
@@ -94,7 +128,10 @@ pub fn pools_of<'a>(
     alloc: Global,
     text: &'a str,
     grace: Option<u64>,
-) -> Result<Vec<PoolPlan<'a>>, HostFailure> {
+) -> Result<Vec<PoolPlan<'a>>, HostFailure>
+    ensures listed { IfOk result (λ pools. AreListed grace text.entry.now pools.items) }
+    ensures none { result ≡ Err HostFailure.NoPools → saying (slice_split (λ b. b == 10) text.entry.now) ≡ [] }
+{
     let mut pools = Vec::new(alloc);
     let mut at = 0u64;
     for line in text.split('\n') {

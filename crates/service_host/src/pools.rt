@@ -1,7 +1,9 @@
 //! A whole server of several pools, by its plan.
 
-ghost use Rattle.std.specs.Prelude.{◌≡◌, true};
+ghost use Rattle.std.specs.Prelude.{◌≡◌, true, IfOk};
 ghost use Rattle.model_asked.specs.Requests.{Request};
+ghost use Rattle.service_host.specs.Plans.{idle_asked};
+ghost use Rattle.service_host.specs.Sizes.{IsAlikeButSize};
 
 use crate::audit_file::AuditFile;
 use crate::failure::HostFailure;
@@ -41,7 +43,11 @@ struct PlannedPool<'a> {
 }
 
 // The plan of one pool, by that of its server.
-fn plan_of<'a>(server: &HostPlan<'a>, pool: PoolPlan<'_>) -> Result<HostPlan<'a>, HostFailure> {
+fn plan_of<'a>(server: &HostPlan<'a>, pool: PoolPlan<'_>) -> Result<HostPlan<'a>, HostFailure>
+    ensures config { IfOk result (λ plan. IsAlikeButSize server.now.config plan.config × (plan.config.k ≡ pool.entry.size)) }
+    ensures ends { IfOk result (λ plan. (plan.grace ≡ pool.entry.grace) × (plan.idle ≡ idle_asked server.now.idle server.now.grace pool.entry.grace)) }
+    ensures same { IfOk result (λ plan. (plan.rules ≡ server.now.rules) × (plan.clients ≡ server.now.clients) × (plan.reports ≡ server.now.reports)) }
+{
     let asked = server.config;
     let world = match asked.world {
         WorldKind::Rename if asked.world.most_numbers() < pool.size => WorldKind::Wide,
@@ -55,6 +61,7 @@ fn plan_of<'a>(server: &HostPlan<'a>, pool: PoolPlan<'_>) -> Result<HostPlan<'a>
     Ok(HostPlan {
         config,
         listen: server.listen,
+        owners: server.owners,
         clients: server.clients,
         idle,
         grace: pool.grace,
@@ -170,7 +177,13 @@ fn unrecorded_pool<R: Net + Clock, L: AuditLog + Drop>(
         rules: plan.rules,
     };
     let stays = Stays::new(alloc);
-    let attended = Attended::new(reading, stays, plan.grace.is_some(), plan.audit(alloc));
+    let attended = Attended::new(
+        alloc,
+        reading,
+        stays,
+        plan.grace.is_some(),
+        plan.audit(alloc),
+    );
     let persister = Unrecorded {
         alloc,
         compactor: Compactor::new(),
@@ -202,7 +215,13 @@ fn recorded_pool<R: Net + Clock, D: Disk + Drop, L: AuditLog + Drop, E: Write>(
         return Err(HostFailure::Memory);
     };
     let options = plan.options(reading.service.hall().config().world);
-    let attended = Attended::new(reading, stays, plan.grace.is_some(), plan.audit(alloc));
+    let attended = Attended::new(
+        alloc,
+        reading,
+        stays,
+        plan.grace.is_some(),
+        plan.audit(alloc),
+    );
     match HostedPool::new(rt, alloc, name, options, attended, persister, log) {
         Ok(pool) => Ok(pool),
         Err(fault) => Err(HostFailure::from(fault)),
@@ -289,15 +308,13 @@ where
     R: Net + Wait + Clock + Files,
     requires { (q : Request) → D.knows q ≡ true }
 {
-    let Listening { listeners, file } = match listen(rt, alloc, server.listen) {
+    let Listening { listeners, files } = match listen(rt, alloc, server.listen) {
         Ok(listening) => listening,
         Err(fault) => return Err(HostFailure::from(fault)),
     };
     match host_pools(rt, alloc, server.clients, listeners, pools, output, errors) {
         Ok(_) => {
-            if let Some(file) = file {
-                file.remove(rt);
-            }
+            files.remove(rt);
             Ok(())
         }
         Err(fault) => Err(HostFailure::from(fault)),

@@ -1,12 +1,14 @@
 //! A service with the rules for its clients.
 
-ghost use Rattle.std.specs.Prelude.{true};
+ghost use Rattle.std.specs.Prelude.{◌≡◌, true};
+ghost use Rattle.model_asked.specs.Replies.{with_view};
+ghost use Rattle.service_hall.specs.Raising.{Raises};
 ghost use Rattle.service_host.specs.Readings.{HallReads, ReadingServes};
 ghost use Rattle.service_host.specs.lemmas.ReadingProofs.{hall_reading_answers, reading_answers};
 
 use model_asked::{Event, Reply};
 use model_steps::{Refusal, View};
-use service_hall::{Hall, Rules, Way};
+use service_hall::{Hall, Rules, Way, token_reply};
 use service_journal::WriteAhead;
 use text_player::Service;
 
@@ -17,6 +19,17 @@ pub struct Reading<D> {
     pub service: D,
     /// Whether the history stores reads, and what clients may ask for.
     pub rules: Rules,
+}
+
+// Puts the next token into the slot of the number that an identity holds, and returns it (`Hall::raise`).
+fn raise<R>(rt: &R, service: &mut WriteAhead, id: u64, view: &mut View) -> Reply<()>
+    ensures raised { Raises service.old.hall id (with_view result view.new) service.new.hall }
+    ensures reported { service.new.reported ≡ service.old.reported }
+{
+    match service.hall().next_token(id) {
+        Some(token) => token_reply(token, service.apply(rt, Event::Put(id, token), view)),
+        None => Reply::Refused(Refusal::OutOfRange),
+    }
 }
 
 impl<R> Service<R> for Reading<Hall> {
@@ -46,6 +59,7 @@ impl<R> Service<R> for Reading<WriteAhead> {
         match self.rules.way_of(event) {
             Way::Applied => self.service.apply(rt, event, view),
             Way::Read(id) => self.service.hall().read(id),
+            Way::Raised(id) => raise(rt, &mut self.service, id, view),
             Way::Barred => Reply::Refused(Refusal::OutOfRange),
         }
     }

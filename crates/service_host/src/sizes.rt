@@ -1,7 +1,11 @@
 //! How many numbers the pool of a hall has, and how many it is to have.
 
-ghost use Rattle.std.specs.Prelude.{◌≡◌, true, IfOk, IfSome};
-ghost use Rattle.service_host.specs.Sizes.{AreAlikeWorlds, IsAlikeButSize, size_of, sizing_of};
+ghost use Rattle.std.specs.Prelude.{◌≡◌, ◌↔◌, true, false, slice_get, None, Ok, IfOk, IfSome, IfNone};
+ghost use Rattle.std.specs.Option.{option_copied};
+ghost use Rattle.model_asked.specs.declared.config.Config.{Config};
+ghost use Rattle.text_lines.specs.Meaning.{words};
+ghost use Rattle.service_follow.specs.Terms.{IsFirstLine};
+ghost use Rattle.service_host.specs.Sizes.{AreAlikeWorlds, IsAlikeButSize, IsConfigIn, TellsConfig, size_of, size_told, sizing_of};
 
 use crate::failure::HostFailure;
 use model_asked::{Config, WorldKind};
@@ -10,9 +14,13 @@ use service_follow::{LogFault, Pause};
 use service_hall::Hall;
 use service_log::{Store, StoreFault};
 use std::alloc::{AllocError, Global};
+use text_lines::words::{cut, number};
 
-/// What stands before the size of the pool in the first entry of a log.
-const SIZE_NAME: &[u8] = b" k ";
+/// What parts two words.
+const SPACE: u8 = 32;
+
+/// How many words stand before the size of the pool in the first entry of a log.
+const SIZE_PLACE: u64 = 8;
 
 /// How often a store is asked for one entry, at most; a `Pause` ends it before.
 const MOST_TRIES: u32 = 1_000_000;
@@ -56,23 +64,24 @@ pub fn choose_sizing(hall: &Hall, asked: u64, by_clients: bool) -> Sizing
 
 // Whether names are given in both worlds or in none, and over places of one kind.
 fn are_alike_worlds(kind: WorldKind, other: WorldKind) -> bool
-    ensures { result ≡ true → AreAlikeWorlds kind other }
+    ensures { result ≡ true ↔ AreAlikeWorlds kind other }
 {
     other.gives_names() == kind.gives_names() && other.is_tree() == kind.is_tree()
 }
 
-/// Returns true only if two configs are the same, but for the pool: its size, and whether it may have many numbers.
+/// Returns true if and only if two configs are the same, but for the pool: its size, and whether it may have many numbers.
 pub(crate) fn are_alike_but_size(config: Config, other: Config) -> bool
-    ensures { result ≡ true → IsAlikeButSize config other }
+    ensures { result ≡ true ↔ IsAlikeButSize config other }
 {
     are_alike_worlds(config.world, other.world)
         && other.m == config.m
         && other.limit == config.limit
 }
 
-// A config of this world, whose pool has this size, and which is else like another.
+// The config of this world, whose pool has this size, and which is else like another, if there is one.
 fn resized(config: Config, world: WorldKind, size: u64) -> Option<Config>
-    ensures { IfSome result (IsAlikeButSize config) }
+    ensures alike { IfSome result (λ d. IsAlikeButSize config d × (d.world ≡ world) × (d.k ≡ size)) }
+    ensures none { IfNone result ((d : Config) → IsAlikeButSize config d → d.world ≡ world → ¬ (d.k ≡ size)) }
 {
     match Config::new(world, config.m, size, config.limit) {
         Ok(resized) if are_alike_but_size(config, resized) => Some(resized),
@@ -80,36 +89,47 @@ fn resized(config: Config, world: WorldKind, size: u64) -> Option<Config>
     }
 }
 
-// The number behind the name of the size, where the entry tells one. The caller compares the whole entry.
-fn size_told(entry: &[u8]) -> u64 {
-    let at = entry
-        .windows(SIZE_NAME.len())
-        .position(|name| name == SIZE_NAME);
-    let Some(at) = at else {
-        return 0;
+// The word at a place of a line, where the line has so many: single spaces part them.
+fn word_at(line: &[u8], place: u64) -> Option<&[u8]>
+    ensures { option_copied result ≡ slice_get (words line.now) place }
+{
+    let (word, behind) = cut(line, SPACE);
+    if place == 0 {
+        return Some(word);
+    }
+    match behind {
+        Some(behind) => word_at(behind, place - 1),
+        None => None,
+    }
+}
+
+// The size of the pool that the first entry of a log tells.
+fn size_told(entry: &[u8]) -> Option<u64>
+    ensures { result ≡ size_told entry.now }
+{
+    number(word_at(entry, SIZE_PLACE)?)
+}
+
+// The config of this world and size that is else like another, if an entry is the first one of a log of such halls.
+fn told_in(
+    alloc: Global,
+    config: Config,
+    world: WorldKind,
+    size: u64,
+    entry: &[u8],
+) -> Result<Option<Config>, AllocError>
+    ensures told { IfOk result (λ found. IfSome found (λ d. IsAlikeButSize config d × IsFirstLine d entry.now)) }
+    ensures none { result ≡ Ok None → (d : Config) → IsAlikeButSize config d → d.world ≡ world → d.k ≡ size → ¬ (IsFirstLine d entry.now) }
+{
+    let Some(tried) = resized(config, world, size) else {
+        return Ok(None);
     };
-    let mut size: u64 = 0;
-    for byte in &entry[at + SIZE_NAME.len()..] {
-        if !byte.is_ascii_digit() {
-            break;
-        }
-        size = size
-            .saturating_mul(10)
-            .saturating_add(u64::from(*byte - b'0'));
-    }
-    size
+    let is_first = is_first_line(alloc, tried, entry)?;
+    Ok(is_first.then_some(tried))
 }
 
-// Whether an entry is the first one of a log of halls of such a config.
-fn begins(alloc: Global, config: Option<Config>, entry: &[u8]) -> Result<bool, AllocError> {
-    match config {
-        Some(config) => is_first_line(alloc, config, entry),
-        None => Ok(false),
-    }
-}
-
-/// Returns the config that the hall of a log was made with, as the first entry of the log tells. Returns `None` if that differs from this one in more than
-/// the pool.
+/// Returns the config that the hall of a log was made with, as the first entry of the log tells. Returns `None` if and only if that differs from this one in
+/// more than the pool.
 ///
 /// # Errors
 ///
@@ -119,13 +139,14 @@ pub fn config_of_log(
     config: Config,
     entry: &[u8],
 ) -> Result<Option<Config>, AllocError>
-    ensures { IfOk result (λ found. IfSome found (IsAlikeButSize config)) }
+    ensures { IfOk result (TellsConfig config entry.now) }
 {
-    let size = size_told(entry);
-    for world in [config.world, WorldKind::Rename, WorldKind::Wide] {
-        let tried = resized(config, world, size);
-        if begins(alloc, tried, entry)? {
-            return Ok(tried);
+    let Some(size) = size_told(entry) else {
+        return Ok(None);
+    };
+    for world in WorldKind::all() {
+        if let Some(told) = told_in(alloc, config, world, size, entry)? {
+            return Ok(Some(told));
         }
     }
     Ok(None)
@@ -136,7 +157,10 @@ fn read_first<S: Store, P: Pause>(
     store: &mut S,
     pause: &mut P,
     entry: &mut Vec<u8>,
-) -> Result<bool, StoreFault> {
+) -> Result<bool, StoreFault>
+    ensures found { result ≡ Ok true → S.stands store.new 0 entry.new.items }
+    ensures missed { result ≡ Ok false → S.lacks store.new 0 }
+{
     pause.begin();
     for _ in 0..MOST_TRIES {
         match store.get(0, entry) {
@@ -152,7 +176,7 @@ fn read_first<S: Store, P: Pause>(
     Err(StoreFault::Lost)
 }
 
-/// Returns the config that the hall of a log was made with, if that differs from this one in the size of the pool alone, and else this one.
+/// Returns the config that the hall of a log was made with, if that differs from this one in the pool alone, and else this one.
 ///
 /// # Errors
 ///
@@ -164,7 +188,8 @@ pub(crate) fn config_in<S: Store, P: Pause>(
     pause: &mut P,
     config: Config,
 ) -> Result<Config, HostFailure>
-    ensures { IfOk result (IsAlikeButSize config) }
+    ensures alike { IfOk result (IsAlikeButSize config) }
+    ensures told { IfOk result (IsConfigIn config (S.stands store.new) (S.lacks store.new)) }
 {
     let mut entry = Vec::new(alloc);
     match read_first(store, pause, &mut entry) {

@@ -55,8 +55,10 @@ pub enum Keeping<'a> {
 pub struct HostPlan<'a> {
     /// The world of the hall, in which names are given, and its sizes.
     pub config: Config,
-    /// What is listened on. Whoever reaches it may say everything: nothing is encrypted, nobody is asked who he is.
+    /// What is listened on. Nothing is encrypted. Unless clients own their identities, whoever reaches it may say everything.
     pub listen: ListenPlan<'a>,
+    /// Whether clients own their identities by secrets. Who connects to the socket for administrators names every identity.
+    pub owners: bool,
     /// How many clients are served at once; others wait to be accepted.
     pub clients: usize,
     /// After how many seconds a client that says nothing is closed; never, where it is not given.
@@ -80,6 +82,8 @@ impl HostPlan<'_> {
     pub(crate) fn options(&self, kind: WorldKind) -> HostOptions {
         HostOptions {
             kind,
+            tokens: self.rules.tokens,
+            owners: self.owners,
             clients: self.clients,
             idle: self.idle,
             grace: self.grace,
@@ -102,7 +106,7 @@ impl HostPlan<'_> {
     }
 }
 
-// Listens, and serves clients of a service over a world of this kind. Where that ended well the file of the socket is removed.
+// Listens, and serves clients of a service over a world of this kind. Where that ended well the files of the sockets are removed.
 fn serve<R, D, K, L: AuditLog, W: Write, E: Write>(
     rt: &R,
     alloc: Global,
@@ -121,12 +125,18 @@ where
     K: Persist<D> + Drop,
     requires { (q : Request) → D.knows q ≡ true }
 {
-    let Listening { listeners, file } = match listen(rt, alloc, plan.listen) {
+    let Listening { listeners, files } = match listen(rt, alloc, plan.listen) {
         Ok(listening) => listening,
         Err(fault) => return Err(fault),
     };
     let mut persister = persister;
-    let mut attended = Attended::new(service, stays, plan.grace.is_some(), plan.audit(alloc));
+    let mut attended = Attended::new(
+        alloc,
+        service,
+        stays,
+        plan.grace.is_some(),
+        plan.audit(alloc),
+    );
     let hosted = host(
         rt,
         alloc,
@@ -140,9 +150,7 @@ where
     );
     match hosted {
         Ok(_) => {
-            if let Some(file) = file {
-                file.remove(rt);
-            }
+            files.remove(rt);
             Ok(Ok(()))
         }
         Err(fault) => Ok(Err(fault)),
@@ -462,7 +470,7 @@ pub(crate) fn open_audit<'a, R: Files<File = File>>(
 /// Where a file lists pools, each is such a hall, with a journal of its own, and clients choose one by their first line (`host_pool_file`).
 ///
 /// The first lines written are `listening ADDRESS:PORT` and `listening PATH`, of what is listened on, and `metrics ADDRESS:PORT`; the last is
-/// `served N`. At a good end the file of the socket is removed. Where the journal cannot be written, nothing is sent of that
+/// `served N`. At a good end the files of the sockets are removed. Where the journal cannot be written, nothing is sent of that
 /// turn, and the server ends.
 ///
 /// # Errors

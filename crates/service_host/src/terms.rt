@@ -1,5 +1,8 @@
 //! For how long stays go on in a hall over a log, and how an operator changes that.
 
+ghost use Rattle.std.specs.Prelude.{◌≡◌};
+ghost use Rattle.service_host.specs.Plans.{terms_asked};
+
 use crate::failure::HostFailure;
 use crate::log_plan::{LogPlan, Patience, fresh_token};
 use crate::sizes::config_in;
@@ -21,7 +24,9 @@ const NO_TERMS: &str =
     "slotctl: this hall in etcd was made by an older version, and does not tell how its stays are held; give it --hold and --grace by --change-terms\n";
 
 /// Returns the terms of a hall whose stays end so many seconds after their connection, or never where no number is given.
-pub(crate) fn terms_by(grace: Option<u64>) -> HallTerms {
+pub(crate) fn terms_by(grace: Option<u64>) -> HallTerms
+    ensures { result ≡ terms_asked grace }
+{
     match grace {
         Some(grace) => HallTerms::Grace(grace.min(MOST_GRACE) as u32),
         None => HallTerms::Forever,
