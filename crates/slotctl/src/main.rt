@@ -127,6 +127,9 @@ fn port_at(address: IpAddr, port: Option<u16>) -> Option<SocketAddr> {
     }
 }
 
+/// The mode of the socket for administrators: whoever runs the server may connect.
+const ADMIN_MODE: u32 = 0o600;
+
 // What is to be listened on: where neither a port nor a socket is named, a port that is free.
 fn listen_plan_of<'a>(endpoints: Endpoints<'a>) -> ListenPlan<'a> {
     let port = match (endpoints.port, endpoints.unix) {
@@ -139,6 +142,13 @@ fn listen_plan_of<'a>(endpoints: Endpoints<'a>) -> ListenPlan<'a> {
             Some(path) => Some(SocketPlan {
                 path,
                 mode: endpoints.mode as u32,
+            }),
+            None => None,
+        },
+        admin: match endpoints.admin {
+            Some(path) => Some(SocketPlan {
+                path,
+                mode: ADMIN_MODE,
             }),
             None => None,
         },
@@ -164,6 +174,7 @@ fn rules_of(admissions: Admissions, stores_reads: bool) -> Rules {
         },
         widening: admissions.widening,
         naming: admissions.naming,
+        tokens: admissions.tokens,
     }
 }
 
@@ -172,6 +183,7 @@ fn host_plan_of<'a>(hosting: Hosting<'a>, seen: bool) -> HostPlan<'a> {
     HostPlan {
         config: hosting.config,
         listen: listen_plan_of(hosting.endpoints),
+        owners: hosting.endpoints.owners,
         clients: hosting.clients as usize,
         idle: if hosting.idle == 0 {
             None

@@ -64,21 +64,24 @@ port_reported rows id number None has big = λ n small h.
 port_reported rows id number (Some port) has is = subst (λ x. HasNumber rows id x) (sym is) has
 
 -- what is made of the matched values are the endpoints, where there are any
-pub reached : (rows : List Row) (address metrics_address : IpAddr) (port metrics : Option ℕ) (path : Option (Bor (List ℕ))) (mode : ℕ) (o : Option Endpoints)
+pub reached : (rows : List Row) (address metrics_address : IpAddr) (port metrics : Option ℕ) (path : Option (Bor (List ℕ))) (mode : ℕ) (admin : Option (Bor (List ℕ))) (owners : Bool) (o : Option Endpoints)
     → HasAddress rows (codes "address") address → MayHavePort rows (codes "port") port → HasText rows (codes "unix") path → HasMode rows mode
-    → HasAddress rows (codes "metrics-address") metrics_address → MayHavePort rows (codes "metrics") metrics
-    → IfSome o (λ e. (e.address ≡ address) × (e.port ≡ port) × (e.unix ≡ path) × (e.mode ≡ mode)) → IfSome o (λ e. (e.metrics_address ≡ metrics_address) × (e.metrics ≡ metrics))
+    → HasText rows (codes "admin") admin → owners ≡ asks_flag (codes "owners") rows → HasAddress rows (codes "metrics-address") metrics_address → MayHavePort rows (codes "metrics") metrics
+    → IfSome o (λ e. (e.address ≡ address) × (e.port ≡ port) × (e.unix ≡ path) × (e.mode ≡ mode)) → IfSome o (λ e. (e.admin ≡ admin) × (e.owners ≡ owners))
+    → IfSome o (λ e. (e.metrics_address ≡ metrics_address) × (e.metrics ≡ metrics))
     → (IsSome o ↔ IsModeRange mode)
     → MatchOption o ((e : Endpoints) → AreEndpointsOf rows e → ⊥) (AreEndpointsOf rows)
-reached rows address metrics_address port metrics path mode (Some e) has_address has_port has_path has_mode has_other has_metrics clients watchers range = record {
+reached rows address metrics_address port metrics path mode admin owners (Some e) has_address has_port has_path has_mode has_admin has_owners has_other has_metrics clients owns watchers range = record {
   address = subst (λ (x : IpAddr). HasAddress rows (codes "address") x) (sym clients.0) has_address;
   port = subst (λ (x : Option ℕ). MayHavePort rows (codes "port") x) (sym clients.1) has_port;
   unix = subst (λ (x : Option (Bor (List ℕ))). HasText rows (codes "unix") x) (sym clients.2) has_path;
   mode = subst (λ (x : ℕ). HasMode rows x) (sym clients.3) has_mode;
+  admin = subst (λ (x : Option (Bor (List ℕ))). HasText rows (codes "admin") x) (sym owns.0) has_admin;
+  owners = owns.1 ∙ has_owners;
   metrics_address = subst (λ (x : IpAddr). HasAddress rows (codes "metrics-address") x) (sym watchers.0) has_other;
   metrics = subst (λ (x : Option ℕ). MayHavePort rows (codes "metrics") x) (sym watchers.1) has_metrics;
 }
-reached rows address metrics_address port metrics path mode None has_address has_port has_path has_mode has_other has_metrics clients watchers range = λ e is.
+reached rows address metrics_address port metrics path mode admin owners None has_address has_port has_path has_mode has_admin has_owners has_other has_metrics clients owns watchers range = λ e is.
     let fits = e.in_range in
     let alike : e.mode ≡ mode = same_mode rows e.mode mode is.mode has_mode in
     let bad : false ≡ true = range.1 (rw alike at fits) in

@@ -139,13 +139,15 @@ IsKeepingOf rows (Journal path) = (first_of (codes "journal") rows ≡ Some path
 IsKeepingOf rows (NewJournal path) = (first_of (codes "journal") rows ≡ Some path.now) × (asks_flag (codes "new") rows ≡ true) × (asks_log rows ≡ false)
 IsKeepingOf rows (Log l) = (first_of (codes "journal") rows ≡ None) × (asks_flag (codes "new") rows ≡ false) × IsLogOf rows l
 
--- what the options of `host` have the hall reached by: a port where one is named, a socket where a path is, and a port for those who watch where
--- one is
+-- what the options of `host` have the hall reached by: a port where one is named, a socket where a path is, one for administrators, and a port for
+-- those who watch where one is; and whether clients own their identities
 pub record AreEndpointsOf (rows : List Row) (e : Endpoints) : Type 0 where
   pub address : HasAddress rows (codes "address") e.address
   pub port : MayHavePort rows (codes "port") e.port
   pub unix : HasText rows (codes "unix") e.unix
   pub mode : HasMode rows e.mode
+  pub admin : HasText rows (codes "admin") e.admin
+  pub owners : e.owners ≡ asks_flag (codes "owners") rows
   pub metrics_address : HasAddress rows (codes "metrics-address") e.metrics_address
   pub metrics : MayHavePort rows (codes "metrics") e.metrics
 
@@ -204,10 +206,11 @@ abbrev pub AdmitWidening : List Row → Bool → Type 0
 AdmitWidening rows true = first_of (codes "admit") rows ≡ Some (codes "widen")
 AdmitWidening rows false = first_of (codes "admit") rows ≡ None
 
--- what clients may ask for by the options of `host`: names where a world is named
+-- what clients may ask for by the options of `host`: names where a world is named; and whether they are given tokens
 pub record AreAdmitted (rows : List Row) (a : Admissions) : Type 0 where
   pub naming : a.naming ≡ is_some (first_of (codes "world") rows)
   pub widening : AdmitWidening rows a.widening
+  pub tokens : a.tokens ≡ asks_flag (codes "tokens") rows
 
 -- the hosting that the options of `host` give, as clap matched them, each number in its range
 pub record IsHostingOf (rows : List Row) (h : Hosting) : Type 0 where

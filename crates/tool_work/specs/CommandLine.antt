@@ -122,13 +122,13 @@ abbrev pub serve_app : App
 serve_app = with_options (codes "serve") (world_option ∷ m_option ∷ k_option ∷ limit_option ∷ port_option
     ∷ number_option (codes "workers") 1 16 (codes "2") ∷ number_option (codes "count") 1 1000000 (codes "1") ∷ [])
 
--- `--world NAME`, or none; `--admit WHAT`, or none; `--address ADDRESS`, or 127.0.0.1; `--port NUMBER`, of 16 bits, or none; `--unix PATH`, or none; `--mode BITS`, or 660; `--metrics NUMBER`, of 16
--- bits, or none; `--metrics-address ADDRESS`, or 127.0.0.1; `--clients NUMBER`, from 1 to 1,000,000, or 10000; `--idle NUMBER`, at most 31,536,000, or none; `--hold
+-- `--world NAME`, or none; `--admit WHAT`, or none; `--tokens`; `--address ADDRESS`, or 127.0.0.1; `--port NUMBER`, of 16 bits, or none; `--unix PATH`, or none; `--mode BITS`, or 660;
+-- `--owners`; `--admin PATH`, or none; `--metrics NUMBER`, of 16 bits, or none; `--metrics-address ADDRESS`, or 127.0.0.1; `--clients NUMBER`, from 1 to 1,000,000, or 10000; `--idle NUMBER`, at most 31,536,000, or none; `--hold
 -- HOW`, or forever; `--grace NUMBER`, from 1 to 86,400, or none; `--reads HOW`, or plain; `--journal FILE`, and with it `--new`; `--etcd MEMBERS` and `--prefix NAME`, or none; `--patience NUMBER`, from 1 to 3,600, or 10; `--log FILE`, or none
 abbrev pub host_app : App
 host_app = with_options (codes "host") (text_option (codes "world") ∷ m_option ∷ hall_k_option ∷ limit_option
-    ∷ text_option (codes "admit") ∷ chosen_option (codes "address") (codes "127.0.0.1") ∷ some_number_option (codes "port") 0 65535
-    ∷ text_option (codes "unix") ∷ chosen_option (codes "mode") (codes "660")
+    ∷ text_option (codes "admit") ∷ flag (codes "tokens") ∷ chosen_option (codes "address") (codes "127.0.0.1") ∷ some_number_option (codes "port") 0 65535
+    ∷ text_option (codes "unix") ∷ chosen_option (codes "mode") (codes "660") ∷ flag (codes "owners") ∷ text_option (codes "admin")
     ∷ some_number_option (codes "metrics") 0 65535 ∷ chosen_option (codes "metrics-address") (codes "127.0.0.1") ∷ number_option (codes "clients") 1 1000000 (codes "10000")
     ∷ some_number_option (codes "idle") 0 31536000 ∷ chosen_option (codes "hold") (codes "forever") ∷ some_number_option (codes "grace") 1 86400
     ∷ chosen_option (codes "reads") (codes "plain") ∷ text_option (codes "journal") ∷ flag (codes "new") ∷ text_option (codes "etcd") ∷ text_option (codes "prefix")

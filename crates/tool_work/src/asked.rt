@@ -262,6 +262,10 @@ pub struct Endpoints<'a> {
     pub unix: Option<&'a str>,
     /// The bits of the mode of that socket, at most 0o777.
     pub mode: u64,
+    /// The path of the socket for administrators, where one is named.
+    pub admin: Option<&'a str>,
+    /// Whether clients own their identities by secrets.
+    pub owners: bool,
     /// The address of the port for those who watch.
     pub metrics_address: IpAddr,
     /// The port for those who watch, where one is named; with 0 any that is free.
@@ -276,10 +280,13 @@ impl<'a> Endpoints<'a> {
         port: Option<u16>,
         unix: Option<&'a str>,
         mode: u64,
+        admin: Option<&'a str>,
+        owners: bool,
         metrics_address: IpAddr,
         metrics: Option<u16>,
     ) -> Option<Endpoints<'a>>
         ensures clients { IfSome result (λ e. (e.address ≡ address) × (e.port ≡ port) × (e.unix ≡ unix.entry) × (e.mode ≡ mode)) }
+        ensures owners { IfSome result (λ e. (e.admin ≡ admin.entry) × (e.owners ≡ owners)) }
         ensures watchers { IfSome result (λ e. (e.metrics_address ≡ metrics_address) × (e.metrics ≡ metrics)) }
         ensures range { IsSome result ↔ IsModeRange mode }
     {
@@ -291,6 +298,8 @@ impl<'a> Endpoints<'a> {
             port,
             unix,
             mode,
+            admin,
+            owners,
             metrics_address,
             metrics,
         })
@@ -304,6 +313,8 @@ pub struct Admissions {
     pub naming: bool,
     /// Whether they may widen the pool.
     pub widening: bool,
+    /// Whether they are given tokens with their numbers.
+    pub tokens: bool,
 }
 
 /// The hall that is hosted.

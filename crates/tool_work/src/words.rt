@@ -318,14 +318,17 @@ fn admissions_given(matches: &ArgMatches<'_>) -> Option<Admissions>
     ensures { IsGiven AreAdmitted (rows_of (found_of matches.now)) result }
 {
     let naming = text_given(matches, "world").is_some();
+    let tokens = flag_given(matches, "tokens");
     match text_given(matches, "admit") {
         None => Some(Admissions {
             naming,
             widening: false,
+            tokens,
         }),
         Some("widen") => Some(Admissions {
             naming,
             widening: true,
+            tokens,
         }),
         Some(_) => None,
     }
@@ -339,9 +342,20 @@ fn endpoints_given<'a>(matches: &ArgMatches<'a>) -> Option<Endpoints<'a>>
     let port = port_given(matches, "port");
     let unix = text_given(matches, "unix");
     let mode = mode_given(matches)?;
+    let admin = text_given(matches, "admin");
+    let owners = flag_given(matches, "owners");
     let metrics_address = address_given(matches, "metrics-address")?;
     let metrics = port_given(matches, "metrics");
-    Endpoints::new(address, port, unix, mode, metrics_address, metrics)
+    Endpoints::new(
+        address,
+        port,
+        unix,
+        mode,
+        admin,
+        owners,
+        metrics_address,
+        metrics,
+    )
 }
 
 // What the options of `host` give, where they give something.

@@ -15,6 +15,6 @@ returns-in_err-metrics_address c = unless_some c.from_residual-in_err-metrics_ad
 
 pub returns : goal.returns
 returns c =
-    reached (rows_of (found_of c.args.matches.now)) c.in_ok-address.address c.in_ok-metrics_address.metrics_address c.port_given-port.result c.port_given-metrics.result c.text_given-unix.result c.in_ok-mode.mode c.new.result
-    c.in_ok-address.ensures c.port_given-port.ensures c.text_given-unix.ensures c.in_ok-mode.ensures c.in_ok-metrics_address.ensures c.port_given-metrics.ensures
-    c.new.ensures.clients c.new.ensures.watchers c.new.ensures.range
+    reached (rows_of (found_of c.args.matches.now)) c.in_ok-address.address c.in_ok-metrics_address.metrics_address c.port_given-port.result c.port_given-metrics.result c.text_given-unix.result c.in_ok-mode.mode c.text_given-admin.result c.flag_given-owners.result c.new.result
+    c.in_ok-address.ensures c.port_given-port.ensures c.text_given-unix.ensures c.in_ok-mode.ensures c.text_given-admin.ensures c.flag_given-owners.ensures c.in_ok-metrics_address.ensures c.port_given-metrics.ensures
+    c.new.ensures.clients c.new.ensures.owners c.new.ensures.watchers c.new.ensures.range
