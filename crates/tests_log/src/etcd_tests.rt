@@ -2,7 +2,7 @@
 
 use crate::log_doubles::Script;
 use service_log::etcd::EtcdStore;
-use service_log::{Put, Store, StoreFault};
+use service_log::{Append, Put, Store, StoreFault};
 use std::alloc::{AllocError, Global};
 
 // The answer to a transaction that put its value.
@@ -48,6 +48,24 @@ const AWAY: &[u8] = b"HTTP/1.1 503 No\r\nContent-Length: 0\r\n\r\n";
 // What is noted where all entries below the place 100 were given up, and were deleted before the place 50.
 const GONE: &[u8] = b"HTTP/1.1 200 OK\r\nConnection: close\r\nContent-Length: 123\r\n\r\n\
         {\"header\":{},\"kvs\":[{\"key\":\"bG9nL2dvbmUAMDAwMDAwMDAwMDAwMDA5OQ==\",\"value\":\"MDAwMDAwMDAwMDAwMDEwMDAwMDAwMDAwMDAwMDAwNTA=\"}]}";
+
+// The answer to an append that came to stand behind another entry, at the place 44.
+const LANDED: &[u8] = b"HTTP/1.1 200 OK\r\nConnection: close\r\nContent-Length: 213\r\n\r\n\
+        {\"header\":{},\"succeeded\":true,\"responses\":[{\"response_txn\":{}},\
+        {\"response_range\":{\"header\":{},\"kvs\":[{\"key\":\"bG9nLzAwMDAwMDAwMDAwMDAwNDM=\",\"value\":\"aGE=\"},{\"key\":\"bG9nLzAwMDAwMDAwMDAwMDAwNDQ=\",\"value\":\"aG8=\"}]}}]}";
+
+// The answer to one that found each of its places taken.
+const FULL: &[u8] = b"HTTP/1.1 200 OK\r\nConnection: close\r\nContent-Length: 213\r\n\r\n\
+        {\"header\":{},\"succeeded\":true,\"responses\":[{\"response_txn\":{}},\
+        {\"response_range\":{\"header\":{},\"kvs\":[{\"key\":\"bG9nLzAwMDAwMDAwMDAwMDAwNDc=\",\"value\":\"aGE=\"},{\"key\":\"bG9nLzAwMDAwMDAwMDAwMDAwNDg=\",\"value\":\"aGU=\"}]}}]}";
+
+// `ho` at the place 44.
+const FOUND_OWN: &[u8] = b"HTTP/1.1 200 OK\r\nConnection: close\r\nContent-Length: 75\r\n\r\n\
+        {\"header\":{},\"kvs\":[{\"key\":\"bG9nLzAwMDAwMDAwMDAwMDAwNDQ=\",\"value\":\"aG8=\"}]}";
+
+// The answer to an append where the fence was changed.
+const REFUSED: &[u8] = b"HTTP/1.1 200 OK\r\nConnection: close\r\nContent-Length: 110\r\n\r\n\
+        {\"header\":{},\"responses\":[{\"response_range\":{\"header\":{},\"kvs\":[{\"key\":\"bG9nL2ZlbmNl\",\"mod_revision\":\"7\"}]}}]}";
 
 /// Texts, of which each exchange takes the next: for what is put and found; for what stands behind and is read at once; a member that says
 /// nothing and one that does not serve, behind which the next is asked; wrong answers, behind which the one place is asked, and what was given up.
@@ -182,5 +200,36 @@ fn a_quota_that_is_used_up_is_reported(rt: HostRuntime) -> Result<(), AllocError
     let texts = [NO_SPACE];
     let mut etcd = store(rt.alloc(), &texts)?;
     assert!(rt; etcd.put(42, b"hi") == Err(StoreFault::NoSpace));
+    Ok(())
+}
+
+/// Whether appends over these texts answer as they should: one that finds its place taken, and one that comes to stand behind
+/// another entry; one whose answer is lost, behind which the fence is changed and one place is offered; one that is refused,
+/// since the fence was changed; and one that finds each place taken.
+fn appends(etcd: &mut EtcdStore<Script<'_>>, entry: &mut Vec<u8>) -> bool {
+    let taken = (etcd.append(42, b"ho"), found(etcd, entry, 42, b"hi"));
+    let behind = (etcd.append(43, b"ho"), found(etcd, entry, 43, b"ha"));
+    let lost = (etcd.append(45, b"hu"), found(etcd, entry, 45, b"ha"));
+    let again = etcd.append(45, b"hu");
+    let refused = etcd.append(46, b"hy");
+    let full = (etcd.append(47, b"hu"), found(etcd, entry, 47, b"ha"));
+    taken == (Ok(Append::Nowhere), (Ok(true), true))
+        && behind == (Ok(Append::At(44)), (Ok(true), true))
+        && lost == (Err(StoreFault::Lost), (Ok(false), true))
+        && again == Ok(Append::At(45))
+        && refused == Ok(Append::At(46))
+        && full == (Ok(Append::Nowhere), (Ok(true), true))
+}
+
+#[test]
+fn an_append_whose_answer_is_lost_is_parted_from_later_ones(
+    rt: HostRuntime,
+) -> Result<(), AllocError> {
+    let texts = [
+        TAKEN, FOUND, LANDED, SILENT, FOUND_OWN, TAKEN, WRITTEN, REFUSED, WRITTEN, FULL,
+    ];
+    let mut etcd = store(rt.alloc(), &texts)?;
+    let mut entry = Vec::new(rt.alloc());
+    assert!(rt; appends(&mut etcd, &mut entry));
     Ok(())
 }

@@ -4,7 +4,7 @@ ghost use Rattle.std.specs.Prelude.{◌≡◌, ◌%◌, ◌∷◌, length, OnOk}
 
 use service_follow::Pause;
 use service_log::etcd::Dial;
-use service_log::{ApplyFault, Machine, MemoryStore, Put, Store, StoreFault};
+use service_log::{Append, ApplyFault, MOST_PLACES, Machine, MemoryStore, Put, Store, StoreFault};
 use std::alloc::{AllocError, Global};
 use std::cell::{Cell, RefCell};
 use std::io;
@@ -89,6 +89,15 @@ impl Store for Lossy {
 
     fn put(&mut self, place: u64, entry: &[u8]) -> Result<Put, StoreFault> {
         let answer = self.store.put(place, entry);
+        self.puts = self.puts.wrapping_add(1);
+        if self.every != 0 && self.puts % self.every == 0 {
+            return Err(StoreFault::Lost);
+        }
+        answer
+    }
+
+    fn append(&mut self, place: u64, entry: &[u8]) -> Result<Append, StoreFault> {
+        let answer = self.store.append(place, entry);
         self.puts = self.puts.wrapping_add(1);
         if self.every != 0 && self.puts % self.every == 0 {
             return Err(StoreFault::Lost);
@@ -204,6 +213,19 @@ impl Store for SharedLog<'_> {
         }
     }
 
+    fn append(&mut self, place: u64, entry: &[u8]) -> Result<Append, StoreFault> {
+        let Ok(mut log) = self.log.try_borrow_mut() else {
+            return Err(StoreFault::Lost);
+        };
+        if !self.let_rival_in(&mut log, place) {
+            return Err(StoreFault::Lost);
+        }
+        match log.append(place, entry) {
+            Ok(append) => Ok(append),
+            Err(_) => Err(StoreFault::Lost),
+        }
+    }
+
     fn get(&mut self, place: u64, entry: &mut Vec<u8>) -> Result<bool, StoreFault> {
         match self.log.try_borrow_mut() {
             Ok(mut log) => log.get(place, entry),
@@ -237,6 +259,87 @@ impl Store for SharedLog<'_> {
             Ok(mut log) => log.trimmed(),
             Err(_) => Err(StoreFault::Lost),
         }
+    }
+}
+
+/// A log whose first append is written late: its answer is lost, and its entry gets there only when the next entry is offered,
+/// before that one.
+#[derive(Drop)]
+pub(crate) struct Late {
+    pub(crate) log: MemoryStore,
+    late: Vec<u8>,
+    appends: u64,
+}
+
+impl Late {
+    /// Over a log, as it stands.
+    pub(crate) fn new(alloc: Global, log: MemoryStore) -> Late {
+        Late {
+            log,
+            late: Vec::new(alloc),
+            appends: 0,
+        }
+    }
+
+    // Writes the entry that is late, and offers this one for one place. Returns `None` if the log refused either.
+    fn offer(&mut self, place: u64, entry: &[u8]) -> Option<Put> {
+        if !self.late.is_empty() {
+            self.log.append(place, &self.late).ok()?;
+            self.late.clear();
+        }
+        self.log.put(place, entry).ok()
+    }
+}
+
+impl Store for Late {
+    ghost use Rattle.std.specs.Prelude.{⊤};
+
+    ghost stands = { λ s place entry. ⊤ };
+
+    ghost lacks = { λ s place. ⊤ };
+
+    ghost fails = { λ fault. ⊤ };
+
+    fn put(&mut self, place: u64, entry: &[u8]) -> Result<Put, StoreFault> {
+        match self.offer(place, entry) {
+            Some(put) => Ok(put),
+            None => Err(StoreFault::Lost),
+        }
+    }
+
+    fn append(&mut self, place: u64, entry: &[u8]) -> Result<Append, StoreFault> {
+        self.appends = self.appends.wrapping_add(1);
+        if self.appends == 1 {
+            return match self.late.extend_from_slice(entry) {
+                Ok(()) => Err(StoreFault::Lost),
+                Err(_) => Err(StoreFault::Memory),
+            };
+        }
+        match self.offer(place, entry) {
+            Some(Put::Written) if place < MOST_PLACES => Ok(Append::At(place)),
+            Some(_) => Ok(Append::Nowhere),
+            None => Err(StoreFault::Lost),
+        }
+    }
+
+    fn get(&mut self, place: u64, entry: &mut Vec<u8>) -> Result<bool, StoreFault> {
+        self.log.get(place, entry)
+    }
+
+    fn hint(&mut self) -> Result<Option<u64>, StoreFault> {
+        Ok(None)
+    }
+
+    fn put_hint(&mut self, _place: u64) -> Result<(), StoreFault> {
+        Ok(())
+    }
+
+    fn trim(&mut self, _place: u64) -> Result<bool, StoreFault> {
+        Ok(true)
+    }
+
+    fn trimmed(&mut self) -> Result<u64, StoreFault> {
+        Ok(0)
     }
 }
 

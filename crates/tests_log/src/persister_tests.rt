@@ -159,18 +159,21 @@ const LOGGED: Rules = Rules {
     reads: Reads::Logged,
     widening: true,
     naming: true,
+    tokens: false,
 };
 
 const PLAIN: Rules = Rules {
     reads: Reads::Plain,
     widening: true,
     naming: true,
+    tokens: false,
 };
 
 const BARRED: Rules = Rules {
     reads: Reads::Plain,
     widening: false,
     naming: false,
+    tokens: false,
 };
 
 /// What two other front ends have written: one that bars `widen`, and one that bars `begin` and `step`.

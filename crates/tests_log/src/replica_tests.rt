@@ -1,8 +1,9 @@
 //! Replicas over a log in memory.
 
-use crate::log_doubles::{Lossy, Notebook};
+use crate::log_doubles::{Late, Lossy, Notebook, SharedLog};
 use service_log::{Cause, Group, MemoryStore, Put, Replica, ServeFault, Step, Store, StoreFault};
 use std::alloc::{AllocError, Global};
+use std::cell::RefCell;
 
 /// A machine to which nothing was applied.
 fn notebook(alloc: Global, refusals: u64) -> Notebook {
@@ -62,6 +63,36 @@ fn finds_what_was_lost(alloc: Global) -> bool {
     reported == [Err(lost), Ok(())]
         && replies.as_slice() == b"\x001 a".as_slice()
         && store.store.len() == 1
+}
+
+/// Whether an entry stands once that got there late, and its replies are those due there.
+fn finds_what_came_late(alloc: Global) -> bool {
+    let mut store = Late::new(alloc, MemoryStore::new(alloc));
+    let mut replies = Vec::new(alloc);
+    let mut one = replica(alloc, 0);
+    let reported = [
+        one.serve(&mut store, b"1 a", &mut replies),
+        one.serve(&mut store, b"1 a", &mut replies),
+        one.serve(&mut store, b"2 a", &mut replies),
+    ];
+    let lost = ServeFault::Unknown(Cause::Store(StoreFault::Lost));
+    reported == [Err(lost), Ok(()), Ok(())]
+        && replies.as_slice() == b"\x012 a".as_slice()
+        && store.log.len() == 2
+}
+
+/// Whether a batch comes to stand behind the entry of a rival that came first, and all that is before it was applied.
+fn stands_behind_a_rival(alloc: Global) -> Result<bool, AllocError> {
+    let log = RefCell::new(MemoryStore::new(alloc));
+    let rival = RefCell::new(Vec::from_slice(alloc, b"2 b")?);
+    let mut store = SharedLog {
+        log: &log,
+        rival: &rival,
+    };
+    let mut replies = Vec::new(alloc);
+    let mut one = replica(alloc, 0);
+    let reported = one.serve(&mut store, b"1 a", &mut replies);
+    Ok(reported == Ok(()) && replies.as_slice() == b"\x011 a".as_slice() && one.place() == 2)
 }
 
 /// Whether a replica whose machine was refused a growth answers nothing any more.
@@ -142,6 +173,11 @@ fn a_place_that_was_given_up_is_taken_for_good(rt: HostRuntime) {
 
 #[test]
 fn replicas_over_stores_that_fail(rt: HostRuntime) {
-    let reported = [finds_what_was_lost(rt.alloc()), is_poisoned(rt.alloc())];
-    assert!(rt; reported == [true, true], "{reported:?}");
+    let reported = [
+        finds_what_was_lost(rt.alloc()),
+        is_poisoned(rt.alloc()),
+        finds_what_came_late(rt.alloc()),
+    ];
+    assert!(rt; reported == [true, true, true], "{reported:?}");
+    assert!(rt; stands_behind_a_rival(rt.alloc()) == Ok(true));
 }

@@ -164,6 +164,16 @@ pub(crate) fn left_after(site: &Site, front: &mut FrontEnd<'_>, left: &[u64]) ->
     Some(competing(front))
 }
 
+/// After how many seconds, less than a hundred, nobody competes any more, where a front end ends what is to end.
+pub(crate) fn seconds_until_alone(site: &Site, front: &mut FrontEnd<'_>) -> Option<u64> {
+    for second in 1..100 {
+        if left_after(site, front, &[])? == 0 {
+            return Some(second);
+        }
+    }
+    None
+}
+
 /// Reads a log by itself: its hall, and the letter of the front end that keeps each stay.
 #[derive(Drop)]
 struct Reader {

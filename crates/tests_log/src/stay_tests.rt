@@ -1,7 +1,9 @@
 //! Front ends that end stays over one log.
 
 use crate::persister_tests::reported;
-use crate::stay_doubles::{FrontEnd, Site, competing, ended, front_end, left_after, says, sweeps};
+use crate::stay_doubles::{
+    FrontEnd, Site, competing, ended, front_end, left_after, says, seconds_until_alone, sweeps,
+};
 
 /// How many steps two front ends make together.
 const STEPS: u64 = 200;
@@ -13,15 +15,7 @@ fn outlives(site: &Site) -> Option<u64> {
     if !says(site, &mut dead, b"enter 1\nprobe 1\n", b"ok\ngot 1\n") {
         return None;
     }
-    for second in 1..100 {
-        if !sweeps(site, &mut other, &[]) {
-            return None;
-        }
-        if competing(&other) == 0 {
-            return Some(second);
-        }
-    }
-    None
+    seconds_until_alone(site, &mut other)
 }
 
 /// The first look is in the first second, and nothing is heard for the grace time and the 20 seconds for which the dead one may answer.

@@ -1,7 +1,9 @@
 //! Front ends of one log that were started with other terms than its hall has, and changes of these.
 
 use crate::persister_tests::reported;
-use crate::stay_doubles::{Site, changed_to, competing, front_end, opened_by, says, sweeps};
+use crate::stay_doubles::{
+    Site, changed_to, competing, front_end, opened_by, says, seconds_until_alone, sweeps,
+};
 use service_follow::{HallTerms, LogFault, ReplyQueue, TermsChange};
 use service_loop::Persist;
 
@@ -114,15 +116,7 @@ fn outlives_later(site: &Site) -> Option<u64> {
     if !entered || other.tick(&mut reply_queue).is_err() {
         return None;
     }
-    for second in 1..100 {
-        if !sweeps(site, &mut other, &[]) {
-            return None;
-        }
-        if competing(&other) == 0 {
-            return Some(second);
-        }
-    }
-    None
+    seconds_until_alone(site, &mut other)
 }
 
 #[test]

@@ -103,7 +103,8 @@ fn make_due(seats: &mut Seats, ready: &mut Vec<usize>) -> Result<(), &'static st
 // Turns until all connections are at their end: how many there were.
 fn run(alloc: Global, teller: &mut Teller, seats: &mut Seats) -> Result<usize, &'static str> {
     let reported = Reported::new(alloc, WorldKind::Rename);
-    let mut attended = Attended::new(reported, Stays::new(alloc), false, Audit::new(alloc, false));
+    let stays = Stays::new(alloc);
+    let mut attended = Attended::new(alloc, reported, stays, false, Audit::new(alloc, false));
     let mut batch = Batch::new(alloc, WorldKind::Rename, teller.most);
     let Ok(mut room) = SharedBuffers::new(alloc) else {
         return Err("no memory");

@@ -131,6 +131,7 @@ fn rules_of_a_hall(rt: HostRuntime) {
         reads: Reads::Plain,
         widening: false,
         naming: false,
+        tokens: false,
     };
     let barred = Reply::Refused(Refusal::OutOfRange);
     let served = [
@@ -142,6 +143,7 @@ fn rules_of_a_hall(rt: HostRuntime) {
     assert!(rt; served == [barred, barred, barred, Reply::Ok] && hall.len() == 1);
     let named = Rules {
         naming: true,
+        tokens: false,
         ..rules
     };
     let widened = Rules {
