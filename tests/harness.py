@@ -22,6 +22,10 @@ LIMIT = 60
 PROGRAM = os.environ.get("SLOTCTL", str(TOP / "crates/slotctl/out/slotctl"))
 
 
+# The memory in bytes that a check of a crate may take: 3.7 GB of a library, and 7 GB of the program, which is checked once most others are done.
+MEMORY = 5_000_000_000
+
+
 class Refused(Exception):
     """What was seen is not what is wanted."""
 
@@ -34,6 +38,14 @@ def wanted(what, want, got):
     """Refuses what is not what is wanted."""
     if want != got:
         raise Refused(f"{what}: wanted {want!r:.300}, got {got!r:.300}")
+
+
+def kit_settings():
+    """The environment of `rt ci`, with as many checks side by side as there are processors, if each has MEMORY. Of itself it runs half as many: it reckons
+    with three times the memory that a check of a crate of a few thousand lines takes."""
+    processors = len(os.sched_getaffinity(0))
+    fitting = os.sysconf("SC_PHYS_PAGES") * os.sysconf("SC_PAGE_SIZE") // MEMORY
+    return {"RT_JOBS": str(processors), **os.environ} if processors <= fitting else dict(os.environ)
 
 
 # Words and parts.
