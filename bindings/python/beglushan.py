@@ -17,6 +17,7 @@ is given one. This client is tested, and not proved.
 import argparse
 import asyncio
 import contextlib
+import hashlib
 import math
 import os
 import random
@@ -30,9 +31,9 @@ import sys
 import threading
 import time
 import traceback
-from typing import Any, AsyncIterator, Callable, Iterable, List, NamedTuple, Optional, Sequence, Tuple, TypeVar, Union
+from typing import Any, AsyncIterator, Callable, Dict, Generator, Iterable, Iterator, List, NamedTuple, Optional, Sequence, Tuple, TypeVar, Union
 
-__all__ = ["AsyncHall", "BeglushanError", "Hall", "LostNumber", "NoNames", "NoPool", "Number", "NumbersExhausted", "Refused", "Terms", "Unreachable"]
+__all__ = ["AsyncHall", "BeglushanError", "Change", "Hall", "LostNumber", "NoNames", "NoPool", "Number", "NumbersExhausted", "Refused", "Terms", "Unreachable"]
 
 Result = TypeVar("Result")
 
@@ -61,8 +62,8 @@ _FORMS = {
     "enter": "ok|refused N",
     "probe": "missed|got N|refused N",
     "seek": "got N|refused N|bad 3",
-    "take": "got N|refused N|bad 3",
-    "put": "ok|refused N",
+    "take": "got N(?: N)?|refused N|bad 3",
+    "put": "ok|value N|refused N",
     "held": "none|N N N",
     "leave": "left N|refused N",
     "begin": "ok|refused N",
@@ -71,6 +72,8 @@ _FORMS = {
     "terms": "terms (?:forever|connection) N N|bad 3",
 }
 _REPLIES = {word: re.compile(form.replace("N", "(?:0|[1-9][0-9]{0,19})")) for word, form in _FORMS.items()}
+# The last line of a reply of several lines: of `held`, or of `watch`.
+_PAGE_END = re.compile(rb"(?:\A|\n)(?:ok|(?:more|point|lost|bad) [0-9]+)\n\Z")
 # The most seconds for which a line waits for a number.
 _MOST_WAIT = 9999
 # How many probes are sent at once: a competitor has a number after as many probes, unless the pool may have more than 64. There `seek` is known.
@@ -138,6 +141,15 @@ class _Held(NamedTuple):
     value: int
 
 
+class Change(NamedTuple):
+    """A number that was taken or given back, as `Hall.watch` yields it."""
+
+    number: int
+    """The number, from 1 to the size of the pool."""
+    holder: Optional[int]
+    """The identity that holds it from now on, or None once it was given back."""
+
+
 class Terms(NamedTuple):
     """What a front end says of the ends of stays, as the line `terms` is answered. All is in seconds."""
 
@@ -162,9 +174,9 @@ class _Connection:
     """One connection at a time to one of the front ends, for one identity. Replies are matched to lines in their order."""
 
     def __init__(
-        self, addresses: Sequence[Tuple[str, int]], timeout: float, identity: int, pool: Optional[str], stopped: Optional[threading.Event] = None
+        self, addresses: Sequence[Tuple[str, int]], timeout: float, owner: "_Owner", pool: Optional[str], stopped: Optional[threading.Event] = None
     ) -> None:
-        self.identity = identity
+        self.owner, self.identity, self.said = owner, owner.identity, owner.said
         self._pool = pool  # which of several pools it is of
         self._stopped = stopped  # ends a wait for a number
         self.serial = 0  # of the last connection: what was said on an earlier one counts no more
@@ -204,25 +216,33 @@ class _Connection:
         """Sends lines at once, and returns the reply to each. A fault closes the connection; the next one is to the next address.
 
         A new connection is asked for its terms before. The replies may come so many seconds later as the lines wait."""
-        host, port = self._addresses[self._at]
         limit = min(limit, self._timeout)
         end = time.monotonic() + limit + wait
-        try:
+        with self._closing():
             serial = self.serial
-            stream = self._silent_stream(host, port, limit)
+            stream = self._silent_stream(limit)
             asked = lines if serial == self.serial else ("terms", *lines)
             stream.settimeout(limit)
             sent = time.monotonic()
             stream.sendall("".join(line + "\n" for line in asked).encode("ascii"))
             replies = _read_replies(stream, len(asked), end, self._stopped if wait else None)
             for line, reply in zip(asked, replies):
-                if not _fits(line, reply):
+                if self.owner.has_secret and reply.startswith("bad ") and self.said in line:
+                    raise BeglushanError("the front end takes no secrets: it was started without --owners")
+                if not _fits(line, reply, self.identity):
                     raise OSError(f"{reply[:80]!r} is no reply to {line!r}")
             self.sent = sent
             if serial == self.serial:
                 return replies
             self.terms = _as_terms(replies[0])
             return replies[1:]
+
+    @contextlib.contextmanager
+    def _closing(self) -> Iterator[None]:
+        """Closes the connection after a fault; the next one is to the next address."""
+        host, port = self._addresses[self._at]
+        try:
+            yield
         except (OSError, UnicodeError) as fault:
             self.close()
             self._at = (self._at + 1) % len(self._addresses)
@@ -241,7 +261,7 @@ class _Connection:
             try:
                 return attempt()
             except _Fault as fault:
-                error: BeglushanError = Unreachable(str(fault), self.identity)
+                error: BeglushanError = Unreachable(str(fault), self.owner.given)
                 error.__cause__ = fault
             except Refused as refusal:
                 if refusal.number != _NO_MEMORY:
@@ -256,20 +276,20 @@ class _Connection:
 
     def held(self) -> Optional[_Held]:
         """The number that the identity holds, if any."""
-        return _as_held(self.exchange(f"held {self.identity}")[0])
+        return _as_held(self.exchange(f"held {self.said}")[0])
 
     def give_back(self) -> None:
         """Gives back what the identity holds, or would get, by one try that may fail."""
-        tried = [f"seek {self.identity}"] if self.is_wide else [f"probe {self.identity}"] * sum(_PROBES)
+        tried = [f"seek {self.said}"] if self.is_wide else [f"probe {self.said}"] * sum(_PROBES)
         try:
-            self.exchange(*tried, f"leave {self.identity}")
+            self.exchange(*tried, f"leave {self.said}")
         except _Fault:
             pass
 
-    def _silent_stream(self, host: str, port: int, limit: float) -> socket.socket:
+    def _silent_stream(self, limit: float) -> socket.socket:
         """The connection, which is made where there is none; a fault where it has ended, or says what was not asked."""
         if self._stream is None:
-            self._stream = socket.create_connection((host, port), limit)
+            self._stream = socket.create_connection(self._addresses[self._at], limit)
             self._stream.setsockopt(socket.IPPROTO_TCP, socket.TCP_NODELAY, 1)
             self._stream.setsockopt(socket.SOL_SOCKET, socket.SO_KEEPALIVE, 1)
             if self._pool is not None:
@@ -296,10 +316,85 @@ class _Connection:
         raise OSError("it says what was not asked" if said else "it closed the connection")
 
 
+class _Watch(_Connection):
+    """A connection that is told what changes of who holds numbers, and who holds them as far as it was told."""
+
+    def __init__(self, addresses: Sequence[Tuple[str, int]], timeout: float, pool: Optional[str], stopped: threading.Event) -> None:
+        super().__init__(addresses, timeout, _as_owner(0, None), pool, stopped)
+        self._holders: Dict[int, int] = {}
+        self._point: Optional[str] = None  # the changes before it were told, on this connection
+
+    def close(self) -> None:
+        super().close()
+        self._point = None
+
+    def look(self) -> List[Change]:
+        """An attempt to be told changes, which waits for one as long as it takes. Where some were not told, it asks who holds numbers."""
+        if self._point is None:
+            return self._look_at_all()
+        try:
+            *lines, last = self._ask(f"watch {self._point}", math.inf)
+        except _Fault:
+            return []  # the next attempt begins anew, and has its own patience
+        word, _, self._point = last.partition(" ")
+        if word == "lost":
+            return self._look_at_all()
+        return self._note(Change(int(number), int(identity) if what == "got" else None) for what, number, identity in map(str.split, lines))
+
+    def _look_at_all(self) -> List[Change]:
+        """Asks who holds numbers, page by page. What changes meanwhile is told behind the point that was asked for before."""
+        word, _, point = self._ask("watch", self._timeout)[-1].partition(" ")
+        if word != "point":
+            raise BeglushanError("the front end tells no changes")
+        holders: Dict[int, int] = {}
+        line = "held"
+        while line:
+            *lines, last = self._ask(line, self._timeout)
+            holders.update((int(number), int(identity)) for number, identity, _ in map(str.split, lines))
+            word, _, first = last.partition(" ")
+            line = f"held from {first}" if word == "more" else ""
+        self._point = point
+        return self._note([Change(number, holders.get(number)) for number in sorted({*holders, *self._holders})])
+
+    def _note(self, changes: Iterable[Change]) -> List[Change]:
+        """Those of the changes that are news."""
+        news = []
+        for change in changes:
+            if change.holder == self._holders.get(change.number):
+                continue
+            if change.holder is None:
+                del self._holders[change.number]
+            else:
+                self._holders[change.number] = change.holder
+            news.append(change)
+        return news
+
+    def _ask(self, line: str, limit: float) -> List[str]:
+        """Sends a line, and returns the lines of the reply to it."""
+        with self._closing():
+            stream = self._silent_stream(self._timeout)
+            stream.settimeout(self._timeout)
+            stream.sendall(f"{line}\n".encode("ascii"))
+            return _read_until(stream, _ends_page, 1, time.monotonic() + limit, self._stopped)
+
+
+def _ends_page(text: bytes) -> bool:
+    """Whether a reply of several lines is read whole."""
+    return bool(_PAGE_END.search(text))
+
+
 def _read_replies(stream: socket.socket, count: int, end: float, stopped: Optional[threading.Event]) -> List[str]:
     """So many lines until that time, with nothing behind them, unless the call is stopped before."""
+    replies = _read_until(stream, lambda text: text.count(b"\n") >= count, count, end, stopped)
+    if len(replies) != count:
+        raise OSError("it says more than was asked")
+    return replies
+
+
+def _read_until(stream: socket.socket, is_whole: Callable[[bytes], bool], count: int, end: float, stopped: Optional[threading.Event]) -> List[str]:
+    """The lines of so many replies until that time, with nothing behind them, unless the call is stopped before."""
     text = b""
-    while text.count(b"\n") < count:
+    while not is_whole(text):
         left = end - time.monotonic()
         if left <= 0:
             raise OSError("it does not answer in time")
@@ -314,15 +409,15 @@ def _read_replies(stream: socket.socket, count: int, end: float, stopped: Option
         if not piece or len(text) > count * _LONGEST:
             raise OSError("it says too much" if piece else "it closed the connection")
     *replies, rest = text.decode("latin-1").split("\n")
-    if len(replies) != count or rest:
+    if rest:
         raise OSError("it says more than was asked")
     return replies
 
 
-def _fits(line: str, reply: str) -> bool:
-    """Whether this may be the reply to this line."""
-    word, _, identity = line.partition(" ")
-    return bool(_REPLIES[word].fullmatch(reply)) and (word != "held" or reply == "none" or reply.split(" ")[1] == identity)
+def _fits(line: str, reply: str, identity: int) -> bool:
+    """Whether this may be the reply to this line, which is of this identity."""
+    word = line.partition(" ")[0]
+    return bool(_REPLIES[word].fullmatch(reply)) and (word != "held" or reply == "none" or reply.split(" ")[1] == str(identity))
 
 
 def _pause(rounds: int) -> float:
@@ -363,7 +458,26 @@ def _as_addresses(addresses: Union[str, Iterable[str]]) -> List[Tuple[str, int]]
 
 
 def _drawn_identity() -> int:
-    return secrets.randbelow(2**64 - 1) + 1
+    """One below 2^63, since a server with `--owners` gives the others to secrets."""
+    return secrets.randbelow(2**63 - 1) + 1
+
+
+class _Owner(NamedTuple):
+    """Who asks: its identity, the one by which the server knows it, and what lines say for it."""
+
+    given: int
+    identity: int
+    said: str
+    has_secret: bool
+
+
+def _as_owner(identity: int, secret: Optional[str]) -> _Owner:
+    """A server with `--owners` knows an identity with a secret by the SHA-256 of both."""
+    if secret is None:
+        return _Owner(identity, identity, str(identity), False)
+    said = f"{identity} {secret}"
+    digest = hashlib.sha256(said.encode("ascii")).digest()
+    return _Owner(identity, int.from_bytes(digest[:8], "big") | 1 << 63, said, True)
 
 
 class Number:
@@ -490,9 +604,9 @@ class Number:
 
     def _search(self, last: str) -> str:
         """Has the identity, which competes and holds no number, hold one: by one line where the pool may have many, and else by more probes."""
-        exchange, probe, held = self._connection.exchange, f"probe {self.identity}", f"held {self.identity}"
+        exchange, probe, held = self._connection.exchange, f"probe {self._connection.said}", f"held {self._connection.said}"
         if self._connection.is_wide is None:
-            sought, last = exchange(f"seek {self.identity}", held)
+            sought, last = exchange(f"seek {self._connection.said}", held)
             self._connection.is_wide = sought != "bad 3"
             _raise_refusal("missed" if sought == "bad 3" else sought)
         for count in _PROBES[1:]:
@@ -507,7 +621,7 @@ class Number:
         left = self._wait_until - time.monotonic()
         if left > 0:
             seconds = min(math.ceil(left), _MOST_WAIT)
-            reply = self._connection.exchange(f"take {self.identity} {seconds}", wait=seconds)[0]
+            reply = self._connection.exchange(f"take {self._connection.said} {seconds}", wait=seconds)[0]
             if reply.startswith("got "):
                 return "ok"
             if reply not in (f"refused {_CROWDED}", "bad 3"):
@@ -516,9 +630,9 @@ class Number:
 
     def _acquire(self) -> None:
         """An attempt to get a number and its token. It goes on where an earlier one has ended."""
-        exchange, held = self._connection.exchange, f"held {self.identity}"
-        tried = [f"seek {self.identity}"] if self._connection.is_wide else [f"probe {self.identity}"] * _PROBES[0]
-        entered, *probes, last = exchange(f"enter {self.identity}", *tried, held)
+        exchange, held = self._connection.exchange, f"held {self._connection.said}"
+        tried = [f"seek {self._connection.said}"] if self._connection.is_wide else [f"probe {self._connection.said}"] * _PROBES[0]
+        entered, *probes, last = exchange(f"enter {self._connection.said}", *tried, held)
         if entered == f"refused {_CROWDED}":
             entered = self._wait_in_line()
             last = exchange(held)[0]
@@ -535,7 +649,10 @@ class Number:
             self._own = _Held(now.number, now.value + 1)
         if self.token >= 2**64:
             raise BeglushanError(f"the slot of number {self.value} has the greatest value, and no token is above that")
-        _raise_refusal(exchange(f"put {self.identity} {self.token}")[0])
+        put = exchange(f"put {self._connection.said} {self.token}")[0]
+        _raise_refusal(put)
+        if put != "ok":  # a server with --tokens, which gives them itself
+            self._own = _Held(now.number, int(put.partition(" ")[2]))
         self._note_answer()
 
     def _note_answer(self) -> None:
@@ -546,9 +663,9 @@ class Number:
 
     def _assure(self, limit: float = math.inf) -> None:
         """An attempt to find that the number is held. On a new connection it says `enter` too."""
-        self._compare(_as_held(self._connection.exchange(f"held {self.identity}", limit=limit)[0]))
+        self._compare(_as_held(self._connection.exchange(f"held {self._connection.said}", limit=limit)[0]))
         if not self._connection.is_open(self._entered_on):
-            reply = self._connection.exchange(f"enter {self.identity}", limit=limit)[0]
+            reply = self._connection.exchange(f"enter {self._connection.said}", limit=limit)[0]
             if reply == "ok":
                 self._connection.give_back()
             if reply in ("ok", f"refused {_CROWDED}"):
@@ -563,7 +680,7 @@ class Number:
             return
         self._compare(held)
         is_again, self._is_leaving = self._is_leaving, True
-        reply = self._connection.exchange(f"leave {self.identity}")[0]
+        reply = self._connection.exchange(f"leave {self._connection.said}")[0]
         _raise_refusal(reply, _NOT_COMPETING)
         if reply != f"left {self.value}" and not (is_again and reply == f"refused {_NOT_COMPETING}"):
             raise self._lose(f"`leave` was answered `{reply}`")
@@ -710,6 +827,7 @@ class Hall:
         addresses: Union[str, Iterable[str]],
         *,
         identity: Optional[int] = None,
+        secret: Optional[str] = None,
         pool: Optional[str] = None,
         timeout: float = 5.0,
         heartbeat: float = 60.0,
@@ -720,23 +838,28 @@ class Hall:
 
         `addresses` are `host:port` texts, or one text with commas between them, tried in turn; an IPv6 address stands in brackets.
         `identity` holds the number and has the name, from 1 to 2^64 - 1. With it the hall holds one number at a time. Without it an identity
-        is drawn for each number, and one for the name. `pool` names one of the pools of a server that has several (`--pools`).
+        is drawn for each number, and one for the name. `secret` has 22 to 64 letters, digits, '-' and '_', as `secrets.token_urlsafe()` draws them: at
+        a server with `--owners` nobody without it speaks for the identity, which is below 2^63 then. `pool` names one of the pools of a server that has
+        several (`--pools`).
         All else is in seconds. `timeout` is the longest that a front end may take to connect or to answer. A held number's connection says
         something each `heartbeat`, or each third of the least of the server's `--grace` and `--idle`, if that is shorter. A call tries the front
         ends for `patience`.
         `on_lost` is called with a number, in the number's thread, once its `valid_until` has passed, or once it is known to be lost. In the first
         case the thread goes on, and the number may come to be valid again: `check` tells.
 
-        Raises ValueError for a text that is no address, an identity out of range, a name that no pool can have, and seconds that are not positive."""
-        if identity is not None and not 0 < identity < 2**64:
-            raise ValueError("an identity is from 1 to 2^64 - 1")
+        Raises ValueError for a text that is no address, an identity out of range, a secret or a name of a pool that is none, and seconds that are not
+        positive."""
+        if identity is not None and not 0 < identity < (2**64 if secret is None else 2**63):
+            raise ValueError("an identity is from 1 to 2^64 - 1, and with a secret to 2^63 - 1")
+        if secret is not None and not re.fullmatch("[A-Za-z0-9_-]{22,64}", secret):
+            raise ValueError("a secret has 22 to 64 letters, digits, '-' and '_'")
         if pool is not None and not re.fullmatch(r"(?!\.)[A-Za-z0-9_.-]{1,64}", pool):
             raise ValueError("a pool's name has 1 to 64 letters, digits, '-', '_' and '.', and does not begin with '.'")
         if min(timeout, heartbeat, patience) <= 0:
             raise ValueError("seconds are positive")
         self.identity = _drawn_identity() if identity is None else identity
         self._is_drawn = identity is None
-        self._addresses, self._pool = _as_addresses(addresses), pool
+        self._addresses, self._pool, self._secret = _as_addresses(addresses), pool, secret
         self._timeout, self._heartbeat, self._patience, self._on_lost = timeout, heartbeat, patience, on_lost
         self._busy = threading.Lock()
 
@@ -775,30 +898,49 @@ class Hall:
             self._busy.release()
             raise
 
+    def watch(self) -> Iterator[Change]:
+        """Yields each change of who holds numbers, at first one for each number that is held. It waits for the next as long as that takes.
+
+        Where the connection or the server has ended, or more has changed meanwhile than the server remembers, it asks who holds numbers, and yields what
+        differs: then a number that was taken and given back meanwhile may be left out. What was yielded adds up to who holds numbers.
+        It has a connection of its own until the iterator is closed. No entry of a history is made.
+
+        The iterator raises NoPool; Unreachable; BeglushanError where the front end is older, and tells no changes."""
+        return self._watched(threading.Event())
+
+    def _watched(self, stopped: threading.Event) -> Generator[Change, None, None]:
+        """The same, until it is stopped."""
+        watch = _Watch(self._addresses, self._timeout, self._pool, stopped)
+        try:
+            while True:
+                yield from watch.persist(watch.look, self._patience)
+        finally:
+            watch.close()
+
     def rename(self) -> int:
         """The name of this hall's identity, from 1 to 2m - 1, where m is the most participants. It is for good: each call returns the same.
 
         Raises Refused (3 where as many have begun as the world takes, 6 where the proposals are used up, 13), NoNames and Unreachable."""
-        connection = _Connection(self._addresses, self._timeout, self.identity, self._pool)
+        connection = _Connection(self._addresses, self._timeout, _as_owner(self.identity, self._secret), self._pool)
         try:
             return connection.persist(lambda: self._named(connection), self._patience)
         finally:
             connection.close()
 
     def _acquired(self, identity: int, wait: float, stopped: threading.Event, at_end: Callable[[], None]) -> Number:
-        connection = _Connection(self._addresses, self._timeout, identity, self._pool, stopped)
+        connection = _Connection(self._addresses, self._timeout, _as_owner(identity, self._secret), self._pool, stopped)
         return Number(connection, self._is_drawn, wait, self._patience, self._heartbeat, self._on_lost, at_end)
 
     def _named(self, connection: _Connection) -> int:
         """An attempt to be named, which goes on where an earlier one has ended."""
         if connection.exchange("owner 1")[0] == "bad 3":
             raise NoNames("the world gives no names")
-        begun = connection.exchange(f"begin {self.identity}")[0]
+        begun = connection.exchange(f"begin {connection.said}")[0]
         if begun == f"refused {_OUT_OF_RANGE}":
             raise NoNames("the front end gives no names")
         _raise_refusal(begun, _ALREADY_BEGUN)
         while True:
-            for reply in connection.exchange(*[f"step {self.identity}"] * _STEPS):
+            for reply in connection.exchange(*[f"step {connection.said}"] * _STEPS):
                 if reply.startswith("named "):
                     return int(reply.split(" ")[1])
                 if reply == f"refused {_FINISHED}":
@@ -809,7 +951,7 @@ class Hall:
         """The name that was given by a step whose reply was lost, or before."""
         names = range(1, _MOST_NAMES + 1)
         for name, reply in zip(names, connection.exchange(*[f"owner {name}" for name in names])):
-            if reply == f"owner {self.identity}":
+            if reply == f"owner {connection.identity}":
                 return name
         raise _Fault("the participant has ended, and owns no name")
 
@@ -843,6 +985,16 @@ class AsyncHall:
             await asyncio.shield(self._loop.run_in_executor(None, _give_back, number))
             raise
         await asyncio.shield(self._loop.run_in_executor(None, number.leave))
+
+    async def watch(self) -> AsyncIterator[Change]:
+        """Yields each change of who holds numbers, as `Hall.watch` does, and raises what that raises."""
+        stopped = threading.Event()
+        changes = self._hall._watched(stopped)
+        try:
+            while True:
+                yield await _unless_cancelled(lambda: next(changes), stopped.set, lambda _: None)
+        finally:
+            changes.close()
 
     async def rename(self) -> int:
         """The name of this hall's identity, as of `Hall.rename`."""
@@ -989,7 +1141,8 @@ def _asked(words: Optional[Sequence[str]]) -> argparse.Namespace:
     commands = parser.add_subparsers(dest="what", required=True)
     take = commands.add_parser("take", description=_USAGE, epilog=_STATUSES, formatter_class=argparse.RawDescriptionHelpFormatter)
     take.add_argument("--at", required=True, metavar="HOST:PORT[,..]", help="the front ends, tried in turn")
-    take.add_argument("--id", type=int, metavar="ID", help="who holds the number, from 1 to 2^64 - 1; drawn if not given")
+    take.add_argument("--id", type=int, metavar="ID", help="who holds the number, from 1 to 2^64 - 1, or with a secret to 2^63 - 1; drawn if not given")
+    take.add_argument("--secret", metavar="FILE", help="a file whose first line is a secret, at front ends with --owners: then nobody else speaks for the identity")
     take.add_argument("--pool", metavar="NAME", help="which pool, of a server that has several")
     take.add_argument("--wait", type=float, default=0.0, metavar="SECONDS", help="how long to wait while all numbers are held (0)")
     take.add_argument("--confirm", type=float, default=60.0, metavar="SECONDS", help="how often to ask whether somebody else gave the number back (60; 0: never)")
@@ -997,12 +1150,20 @@ def _asked(words: Optional[Sequence[str]]) -> argparse.Namespace:
     return parser.parse_args(words)
 
 
+def _secret_in(path: Optional[str]) -> Optional[str]:
+    """The first line of a file. Who may read the words of a command does not read the file."""
+    if path is None:
+        return None
+    with open(path, encoding="ascii") as file:
+        return file.readline().rstrip("\n")
+
+
 def main(words: Optional[Sequence[str]] = None) -> int:
-    """Runs a command while it holds a number: `take --at ADDRESS [--id ID] [--pool NAME] [--wait SECONDS] -- COMMAND ..`. Returns its status."""
+    """Runs a command while it holds a number: `take --at ADDRESS [--id ID] [--secret FILE] [--pool NAME] [--wait SECONDS] -- COMMAND ..`. Returns its status."""
     asked = _asked(words)
     try:
-        hall = Hall(asked.at, identity=asked.id, pool=asked.pool)
-    except ValueError as fault:
+        hall = Hall(asked.at, identity=asked.id, secret=_secret_in(asked.secret), pool=asked.pool)
+    except (OSError, ValueError) as fault:
         print(f"beglushan: {fault}", file=sys.stderr)
         return 2
     command = _Command(asked.command, asked.confirm)
