@@ -20,6 +20,8 @@ use crate::proved::service_loop::attended::Attended;
 use crate::proved::service_loop::audit::Audit;
 use crate::proved::service_loop::buffers::Buffers;
 use crate::proved::service_loop::connection::{Connection, ConnectionStage};
+use crate::proved::service_loop::first_point::FirstPoint;
+use crate::proved::service_loop::manner::Manner;
 use crate::proved::service_loop::shared::SharedBuffers;
 use crate::proved::service_loop::stream::Stream;
 use crate::proved::service_loop::taking::serve_takings;
@@ -243,7 +245,13 @@ fn hosted(config: Config, bytes: &[u8], pieces: u64, most: usize) -> Vec<u8> {
         service: hall,
         rules: Rules::all(Reads::Logged),
     };
-    let mut service = Attended::new(reading, Stays::new(Global), false, Audit::new(Global, true));
+    let mut service = Attended::new(
+        Global,
+        reading,
+        Stays::new(Global),
+        false,
+        Audit::new(Global, true),
+    );
     let mut persister = Unrecorded {
         alloc: Global,
         compactor: Compactor::new(),
@@ -283,7 +291,10 @@ fn hosted(config: Config, bytes: &[u8], pieces: u64, most: usize) -> Vec<u8> {
                 &mut seats,
                 &[1],
                 &[0],
-                false,
+                Manner {
+                    wide: false,
+                    tokens: false,
+                },
                 false,
             );
             assert!(taken.is_ok());
@@ -291,6 +302,8 @@ fn hosted(config: Config, bytes: &[u8], pieces: u64, most: usize) -> Vec<u8> {
                 &service.service,
                 &persister,
                 TERMS,
+                &service.changes,
+                &FirstPoint::new(1),
                 &mut shared,
                 &mut seats,
                 &[0],

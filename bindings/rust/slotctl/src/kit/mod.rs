@@ -27,6 +27,7 @@ pub mod os;
 pub mod rand_core;
 pub mod rt;
 pub mod serde_json;
+pub mod sha2;
 mod string;
 pub mod sync;
 pub mod thread;

@@ -1,4 +1,4 @@
-// Erased by bindings/rust/erase from crates/service_hall/src/lib.rt, sha256 9e00a060ae2456bf53f6fe1cf645543e3bf37cf312e0012f64806bc92b1b2d51.
+// Erased by bindings/rust/erase from crates/service_hall/src/lib.rt, sha256 b236bcb2383c90063589b3327cc05496675cdb44a9e8f4ef5498f53df1dab3d5.
 //! One desk with the history of its events, and a shorter history for the same desk.
 //!
 //! A *hall* is a desk with the list of its accepted events and their replies. What is proved:
@@ -17,6 +17,9 @@
 //! are plain (`Reads`). It refuses `widen`, `begin` and `step` if the rules bar them (`Rules`). What is proved of such
 //! turns (`law_of_reads`): without what is barred they are a transcript of the config with all reads in it, and without
 //! the reads too they are the turns of a hall that stores reads.
+//!
+//! If tokens are given (`Rules`), a client's `put` puts one more than the slot has, and is answered with that token. No slot
+//! ever has less than before, so each token is above all that its number had (`law_of_raises`).
 //!
 //! A reply that shows a view takes a kilobyte. `Hall::apply_short` returns a reply of few bytes instead, and stores the
 //! view in a buffer of the caller.
@@ -66,6 +69,7 @@ mod helpers;
 pub mod laws;
 pub mod log;
 mod plan;
+pub mod raising;
 pub mod reads;
 mod rebuilding;
 pub mod rules;

@@ -1,4 +1,4 @@
-// Erased by bindings/rust/erase from crates/service_log/src/lib.rt, sha256 9ee1a912346a4bc20a891083e5cebdd1c4aad95a8eb854ec4e082d085109df58.
+// Erased by bindings/rust/erase from crates/service_log/src/lib.rt, sha256 ba336dc19ec1623c624f909f3bc5faccebcc0251c9db11a3ef2b226a79e135b5.
 //! One log that several machines share, and a replica of a machine that follows it (Schneider 1990).
 //!
 //! A `Store` has places, each of which is written at most once, by the first caller. Its entries in order are the log.

@@ -1,4 +1,4 @@
-// Erased by bindings/rust/erase from crates/service_loop/src/lib.rt, sha256 a03b79ae91689b873c0db092d17681b58aebc2973a270e51b41150ddada7afc4.
+// Erased by bindings/rust/erase from crates/service_loop/src/lib.rt, sha256 b2ecc95271283adc197354e6d8439afd798ae4f26387b8ff495ce588ca207402.
 //! Connections that share one service, in one thread.
 //!
 //! `Buffers` are a connection without its stream: one side of a transcript (`Responder`), what came and is not taken yet, and what was said and is not
@@ -22,12 +22,16 @@
 //! that are due, and no others.
 //!
 //! After an iteration a line `take ID` that waits first takes a number (`serve_takings`): the server says `enter ID`, and then in the wide world one
-//! `seek ID`, elsewhere `probe ID` as often as it takes, and answers the last reply. This is kept before it is answered, like all else. Where answers
-//! are prefetched, the lines of that are a batch of their own (`prefetch_takings`).
+//! `seek ID`, elsewhere `probe ID` as often as it takes, and answers the last reply. Where tokens are given, it says `put ID 0` behind a number, and the
+//! answer tells the token too (`take_with_token`). This is kept before it is answered, like all else. Where answers are prefetched, the lines of that are
+//! a batch of their own (`prefetch_takings`).
 //!
 //! `host` is a whole server over sockets: it waits until some are ready (`mio`), gives those their turn, and closes who is at an end or idle. Its theorem
 //! (`WasAttended`): from its start to its end nothing else was done than such turns, each said of the numbers of its connections; what was heard
 //! of connections that ended, at a tick; and what was done to end the stays that are due then (`law_of_hosted_grace`).
+//!
+//! Where clients own their identities, the lines of each socket go through `OwnerLines`: an identity and the secret behind it become the identity that both
+//! give (`put_owned`, `law_of_owner_lines`). The rest of the loop knows nothing of that.
 //!
 //! `host_pools` is a server of several pools (`HostedPool`): a client chooses one by its first line (`Porch`). Its theorem (`PoolsWereAttended`): nothing else
 //! was done to each pool than `host` does.
@@ -59,15 +63,21 @@ pub mod audit;
 mod audit_lines;
 pub mod audit_log;
 pub mod buffers;
+pub mod change;
 pub mod connection;
 pub mod connections;
 pub mod doors;
 pub mod failing;
+pub mod feed;
+pub mod first_point;
 pub mod gathering;
 pub mod host_fault;
 pub mod hosting;
 mod losing;
+pub mod manner;
 mod newcomer;
+pub mod owner_line;
+pub mod owner_lines;
 pub mod peek;
 pub mod persist;
 pub mod pool_line;
@@ -85,4 +95,6 @@ pub mod taking;
 pub mod teller;
 pub mod terms;
 pub mod turns;
+pub mod watch_line;
+pub mod watchers;
 pub mod watching;

@@ -1,4 +1,4 @@
-// Erased by bindings/rust/erase from crates/slotctl/src/main.rt, sha256 fe2ec59c99ca6c9fe89d760a8ba67b5acf9251574b3d7af12b0c26346a681b9f.
+// Erased by bindings/rust/erase from crates/slotctl/src/main.rt, sha256 95eaf285fa09eeacda93e9b3002302a55da3217a8ad4be341ac5e5b508f85c07.
 //! The program `slotctl`: plays schedules of shared-memory algorithms, one access a step.
 //!
 //! `slotctl play --world splitter --m 2` reads commands from the standard input, one a line, and writes a reply to each to
@@ -134,6 +134,9 @@ fn port_at(address: IpAddr, port: Option<u16>) -> Option<SocketAddr> {
     }
 }
 
+/// The mode of the socket for administrators: whoever runs the server may connect.
+const ADMIN_MODE: u32 = 0o600;
+
 // What is to be listened on: where neither a port nor a socket is named, a port that is free.
 fn listen_plan_of<'a>(endpoints: Endpoints<'a>) -> ListenPlan<'a> {
     let port = match (endpoints.port, endpoints.unix) {
@@ -146,6 +149,13 @@ fn listen_plan_of<'a>(endpoints: Endpoints<'a>) -> ListenPlan<'a> {
             Some(path) => Some(SocketPlan {
                 path,
                 mode: endpoints.mode as u32,
+            }),
+            None => None,
+        },
+        admin: match endpoints.admin {
+            Some(path) => Some(SocketPlan {
+                path,
+                mode: ADMIN_MODE,
             }),
             None => None,
         },
@@ -171,6 +181,7 @@ fn rules_of(admissions: Admissions, stores_reads: bool) -> Rules {
         },
         widening: admissions.widening,
         naming: admissions.naming,
+        tokens: admissions.tokens,
     }
 }
 
@@ -179,6 +190,7 @@ fn host_plan_of<'a>(hosting: Hosting<'a>, seen: bool) -> HostPlan<'a> {
     HostPlan {
         config: hosting.config,
         listen: listen_plan_of(hosting.endpoints),
+        owners: hosting.endpoints.owners,
         clients: hosting.clients as usize,
         idle: if hosting.idle == 0 {
             None

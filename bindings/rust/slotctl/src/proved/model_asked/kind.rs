@@ -20,6 +20,17 @@ pub enum WorldKind {
 }
 
 impl WorldKind {
+    /// Returns all of them.
+    pub fn all() -> [WorldKind; 5] {
+        [
+            WorldKind::Splitter,
+            WorldKind::Grid,
+            WorldKind::Rename,
+            WorldKind::Tree,
+            WorldKind::Wide,
+        ]
+    }
+
     /// Returns its name, in the command line and in records: at most 8 letters.
     pub fn name(self) -> &'static str {
         match self {

@@ -1,4 +1,4 @@
-// Erased by bindings/rust/erase from crates/service_follow/src/compaction.rt, sha256 5a5b094439d13ce11fdbceff16628958e9941edccb8de30021c834235663dc8b.
+// Erased by bindings/rust/erase from crates/service_follow/src/compaction.rt, sha256 64094beab4b14c3f8dab2a7c115fbab71ffcba5a22e6ea28bb995320594b6883.
 //! Compactions that a front end offers.
 
 use crate::kit::alloc::{AllocError, Global};

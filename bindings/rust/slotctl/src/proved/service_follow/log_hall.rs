@@ -1,4 +1,4 @@
-// Erased by bindings/rust/erase from crates/service_follow/src/log_hall.rt, sha256 08f7769417f9d10d56da8d9450042f6f7f543347d6df07480d92562815a27b83.
+// Erased by bindings/rust/erase from crates/service_follow/src/log_hall.rt, sha256 2a5daad905488571d310765804b1703481d57e2a4cb47a108b7080c3e3e082eb.
 //! A hall that follows a log.
 
 use crate::kit::alloc::Global;
@@ -15,6 +15,7 @@ use crate::proved::service_log::replica::{Replica, Step};
 use crate::proved::service_log::serve_fault::{Cause, ServeFault};
 use crate::proved::service_log::store::Store;
 use crate::proved::service_log::store_fault::StoreFault;
+use crate::proved::service_loop::feed::Feed;
 
 /// A hall of a config that follows a log: from a hall with no event it was led by the entries that stand in the log, each once, in their
 /// order, up to its place. If it started at a later place than the first, it was led by those from there on (`StayMachine`).
@@ -112,6 +113,11 @@ impl<S: Store> LogHall<S> {
     /// Returns how many compactions were read to their end since it started. Not proved.
     pub(crate) fn compactions(&self) -> u64 {
         self.replica.machine().compactions()
+    }
+
+    /// Returns what the entries changed of who holds numbers. Not proved.
+    pub(crate) fn changes(&self) -> &Feed {
+        self.replica.machine().changes()
     }
 
     /// Returns the terms of the hall, as the entry told that told some last. Not proved.

@@ -1,4 +1,4 @@
-// Erased by bindings/rust/erase from crates/service_follow/src/log_persister.rt, sha256 d5cde4f5c32b5a141b2b70ccb4d25d3c68c2ce35b6dbe6d7d21fa7dd02f08211.
+// Erased by bindings/rust/erase from crates/service_follow/src/log_persister.rt, sha256 34c505bad8fb0e6362a4bee29570db368c2c187c70003d0b420f5c73c1de8c16.
 //! Serves the clients of one front end over a log.
 
 use crate::kit::alloc::{AllocError, Allocator, Global};
@@ -26,6 +26,7 @@ use crate::proved::service_log::replica::{Step, MOST_BATCH};
 use crate::proved::service_log::serve_fault::{Cause, ServeFault};
 use crate::proved::service_log::store::{Store, MOST_PLACES};
 use crate::proved::service_log::store_fault::StoreFault;
+use crate::proved::service_loop::feed::Feed;
 use crate::proved::service_loop::persist::{Persist, Prefetch};
 use crate::proved::service_watch::numbers::Tally;
 use crate::proved::text_lines::held::query::HeldQuery;
@@ -35,8 +36,8 @@ use crate::proved::text_lines::replies::Replies;
 /// What ends a line.
 const LF: u8 = 10;
 
-/// How many bytes the first line of a batch has, at most: a token, a count, ` plain --` and its LF.
-const HEAD: usize = 59;
+/// How many bytes the first line of a batch has, at most: a token, a count, ` plain --t` and its LF.
+const HEAD: usize = 60;
 
 /// How often a store is asked for one batch, at most; a `Pause` ends it before.
 const MOST_TRIES: u32 = 1_000_000;
@@ -119,15 +120,23 @@ pub(crate) fn put_head(head: &mut Vec<u8>, token: &[u8], count: u64) -> Result<(
 
 // What the first line of a batch tells of its rules.
 fn told_of(rules: Rules) -> &'static [u8] {
-    match (rules.reads, rules.widening, rules.naming) {
-        (Reads::Logged, true, true) => b"",
-        (Reads::Logged, true, false) => b" whole w-",
-        (Reads::Logged, false, true) => b" whole -n",
-        (Reads::Logged, false, false) => b" whole --",
-        (Reads::Plain, true, true) => b" plain",
-        (Reads::Plain, true, false) => b" plain w-",
-        (Reads::Plain, false, true) => b" plain -n",
-        (Reads::Plain, false, false) => b" plain --",
+    match (rules.reads, rules.widening, rules.naming, rules.tokens) {
+        (Reads::Logged, true, true, false) => b"",
+        (Reads::Logged, true, true, true) => b" whole wnt",
+        (Reads::Logged, true, false, false) => b" whole w-",
+        (Reads::Logged, true, false, true) => b" whole w-t",
+        (Reads::Logged, false, true, false) => b" whole -n",
+        (Reads::Logged, false, true, true) => b" whole -nt",
+        (Reads::Logged, false, false, false) => b" whole --",
+        (Reads::Logged, false, false, true) => b" whole --t",
+        (Reads::Plain, true, true, false) => b" plain",
+        (Reads::Plain, true, true, true) => b" plain wnt",
+        (Reads::Plain, true, false, false) => b" plain w-",
+        (Reads::Plain, true, false, true) => b" plain w-t",
+        (Reads::Plain, false, true, false) => b" plain -n",
+        (Reads::Plain, false, true, true) => b" plain -nt",
+        (Reads::Plain, false, false, false) => b" plain --",
+        (Reads::Plain, false, false, true) => b" plain --t",
     }
 }
 
@@ -169,7 +178,7 @@ fn first_line(
     Ok(line)
 }
 
-/// Returns true only if an entry is the first one of a log of halls of this config, with terms or without.
+/// Returns true if and only if an entry is the first one of a log of halls of this config, with terms or without.
 ///
 /// # Errors
 ///
@@ -766,6 +775,10 @@ impl<S: Store, T: Pause> Persist<ReplyQueue> for LogPersister<S, T> {
 
     fn may_answer_stays(&self) -> bool {
         LogPersister::may_answer_stays(self)
+    }
+
+    fn changes(&self) -> Option<&Feed> {
+        Some(self.log.changes())
     }
 
     fn trouble(&self) -> Option<&'static str> {

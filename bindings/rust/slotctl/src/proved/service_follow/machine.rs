@@ -1,4 +1,4 @@
-// Erased by bindings/rust/erase from crates/service_follow/src/machine.rt, sha256 774b5a9d015e2f67ac831613e8888e4b2e4295729224fb1a0584079bda5ccdbb.
+// Erased by bindings/rust/erase from crates/service_follow/src/machine.rt, sha256 d7a7b500645a5ab53b0d6d85a257b56af11d4a997a8ba9b7fa67121c89947584.
 //! A hall to which the entries of a log are applied.
 
 use crate::kit::alloc::{AllocError, Global};
@@ -62,12 +62,18 @@ fn bars(entry: &[u8], place: usize) -> bool {
     is_there(entry, MARK, b' ') && is_there(entry, BARS, b' ') && is_there(entry, place, b'-')
 }
 
+/// Whether an entry gives tokens, as its first line says.
+fn gives_tokens(entry: &[u8]) -> bool {
+    is_there(entry, MARK, b' ') && is_there(entry, BARS, b' ') && is_there(entry, BARS + 3, b't')
+}
+
 /// The rules by which the lines of an entry are played, as its first line says.
 fn rules_of(entry: &[u8]) -> Rules {
     Rules {
         reads: reads_of(entry),
         widening: !bars(entry, BARS + 1),
         naming: !bars(entry, BARS + 2),
+        tokens: gives_tokens(entry),
     }
 }
 

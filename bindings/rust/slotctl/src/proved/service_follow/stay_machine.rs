@@ -1,4 +1,4 @@
-// Erased by bindings/rust/erase from crates/service_follow/src/stay_machine.rt, sha256 66e6c925f14ee95641cbe47fd5b892b2bb0ae18f402afe912ddb2afd425c13a0.
+// Erased by bindings/rust/erase from crates/service_follow/src/stay_machine.rt, sha256 c24cf487f34987922dd65968b8e27d95184ddc46a428bdff475b776e50bf5af7.
 //! A hall to which the entries of a log are applied, and who keeps its stays.
 
 use crate::kit::alloc::Global;
@@ -10,10 +10,12 @@ use crate::proved::service_follow::hall_terms::{terms_of, ToldTerms};
 use crate::proved::service_follow::keeping::Keeping;
 use crate::proved::service_follow::machine::HallMachine;
 use crate::proved::service_follow::marks::{entries_in, head_at, kept_in, mark_of, Mark, BEFORE};
+use crate::proved::service_follow::note::{Asked, Note};
 use crate::proved::service_follow::reply_queue::ReplyQueue;
 use crate::proved::service_follow::retelling::is_retold;
 use crate::proved::service_hall::hall::Hall;
 use crate::proved::service_log::machine::{ApplyFault, Machine};
+use crate::proved::service_loop::feed::Feed;
 
 /// A hall to which the entries of a log are applied (`HallMachine`), and which front end keeps each stay in its pool: whose entry said `enter`
 /// of it last and was answered `ok` or `refused 9`. The first 32 bytes of an entry are the token of its front end.
@@ -38,6 +40,17 @@ pub struct StayMachine {
     compacted: u64,
     /// The terms of the hall, as the entry told that told some last.
     terms: Option<ToldTerms>,
+    /// What entries changed of who holds numbers.
+    changes: Feed,
+}
+
+// Notes what requests changed of who holds numbers.
+fn note_changes(changes: &mut Feed, notes: &[Note]) {
+    for note in notes {
+        if let Asked::ToTake(event) = note.asked() {
+            changes.note(event, &note.reply());
+        }
+    }
 }
 
 impl StayMachine {
@@ -54,6 +67,7 @@ impl StayMachine {
             compactions: 0,
             compacted: 0,
             terms: None,
+            changes: Feed::new(alloc),
         })
     }
 
@@ -125,6 +139,11 @@ impl StayMachine {
         self.terms
     }
 
+    /// Returns what the entries changed of who holds numbers, from the place on at which it began. Not proved.
+    pub(crate) fn changes(&self) -> &Feed {
+        &self.changes
+    }
+
     // Notes what an entry tells of the terms of the hall, whatever else is known.
     fn note_terms(&mut self, entry: &[u8]) {
         if let Some(told) = terms_of(entry) {
@@ -142,6 +161,7 @@ impl StayMachine {
     fn take_lines(&mut self, entry: &[u8], reply_queue: &mut ReplyQueue) -> Result<(), ApplyFault> {
         let _ = self.gathered.take();
         self.halls.apply(entry, reply_queue)?;
+        note_changes(&mut self.changes, reply_queue.notes());
         match self.keeping.learn(&token_of(entry), reply_queue.notes()) {
             Ok(()) => Ok(()),
             Err(_) => Err(ApplyFault::Memory),

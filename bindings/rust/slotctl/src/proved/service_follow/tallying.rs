@@ -1,11 +1,23 @@
-// Erased by bindings/rust/erase from crates/service_follow/src/tallying.rt, sha256 c3e870800339dceb3538f4e7b815327d53f850aa174eb01eb4486b0ec6d34eae.
+// Erased by bindings/rust/erase from crates/service_follow/src/tallying.rt, sha256 a974f872dbdd4dd000ed4ff6a0413a802b005cb5e92b9d6c92e69a89f348996b.
 //! How much there is of a hall.
 
 use crate::kit::alloc::Global;
 use crate::proved::model_asked::reply::Reply;
+use crate::proved::model_pool::competitor::Competitor;
 use crate::proved::model_pool::stay::Stay;
 use crate::proved::service_hall::hall::{Hall, MOST_EVENTS};
 use crate::proved::service_watch::numbers::Tally;
+
+// How many of these competitors hold a number.
+fn count_held(competitors: &[Competitor]) -> u64 {
+    let mut held = 0;
+    for competitor in competitors {
+        if matches!(competitor.stay, Stay::Settled(_)) {
+            held += 1;
+        }
+    }
+    held
+}
 
 // How many numbers of the pool nobody holds; `None` where an allocation failed.
 fn numbers_free(alloc: Global, hall: &Hall) -> Option<u64> {
@@ -13,20 +25,21 @@ fn numbers_free(alloc: Global, hall: &Hall) -> Option<u64> {
     let Ok(competitors) = pool.competitors(alloc) else {
         return None;
     };
-    let held = competitors
-        .iter()
-        .filter(|competitor| matches!(competitor.stay, Stay::Settled(_)))
-        .count();
-    Some(pool.size().saturating_sub(held as u64))
+    Some(pool.size().saturating_sub(count_held(&competitors)))
+}
+
+// Whether somebody has the name of this number.
+fn is_given(hall: &Hall, number: u64) -> bool {
+    matches!(hall.owner(number), Reply::Owner(Some(_)))
 }
 
 // How many names are given, of those from 1 to 2m - 1.
 fn names_given(hall: &Hall) -> u64 {
-    let most = hall.config().m.saturating_mul(2);
-    let mut given: u64 = 0;
+    let most = 2 * hall.config().m;
+    let mut given = 0;
     for number in 1..most {
-        if let Reply::Owner(Some(_)) = hall.owner(number) {
-            given = given.saturating_add(1);
+        if is_given(hall, number) {
+            given += 1;
         }
     }
     given

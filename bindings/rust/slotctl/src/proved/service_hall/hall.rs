@@ -1,4 +1,4 @@
-// Erased by bindings/rust/erase from crates/service_hall/src/hall.rt, sha256 94b754ec4c36c203fe228cefce9124fed18bb4b40c88e99c6bd77f8f2a5442a0.
+// Erased by bindings/rust/erase from crates/service_hall/src/hall.rt, sha256 2362c9e75d8d521aa3da2fb22ef796faccac29dcce7fb4803fa9a9b26f846c70.
 //! A desk with its history.
 
 use crate::kit::alloc::Global;
@@ -10,6 +10,7 @@ use crate::proved::model_pool::slots::slots::Slots;
 use crate::proved::model_steps::refusal::Refusal;
 use crate::proved::model_steps::view::View;
 use crate::proved::service_hall::log::Log;
+use crate::proved::service_hall::raising::token_reply;
 use crate::proved::service_hall::rules::{Rules, Way};
 use crate::proved::text_worlds::desk::desk::Desk;
 
@@ -108,12 +109,37 @@ impl Hall {
         Reply::of_value(self.held.desk.slots().get(id).copied())
     }
 
-    /// Takes an event by rules: it does what `read` does if the event is a `get` and reads are plain, and what `apply_short` does if it is another that is
-    /// admitted. Any other is refused with `OutOfRange`, and changes nothing.
+    /// Returns the next token of the number that an identity holds: one more than its slot has. It is `None` if the slot has the greatest value.
+    ///
+    /// Of an identity that holds no number it is 1.
+    pub fn next_token(&self, id: u64) -> Option<u64> {
+        self.held
+            .desk
+            .slots()
+            .get(id)
+            .copied()
+            .unwrap_or(0)
+            .checked_add(1)
+    }
+
+    /// Puts the next token into the slot of the number that an identity holds, and returns it (`next_token`).
+    ///
+    /// The history stores a `put` of that token. The reply is `Value` with the token, or the refusal of the `put`. It is `OutOfRange` if there is no next
+    /// token.
+    pub fn raise(&mut self, id: u64, view: &mut View) -> Reply<()> {
+        match self.next_token(id) {
+            Some(token) => token_reply(token, self.apply_short(Event::Put(id, token), view)),
+            None => Reply::Refused(Refusal::OutOfRange),
+        }
+    }
+
+    /// Takes an event by rules: it does what `read` does if the event is a `get` and reads are plain, what `raise` does if it is a `put` and tokens are
+    /// given, and what `apply_short` does if it is another that is admitted. Any other is refused with `OutOfRange`, and changes nothing.
     pub fn serve_short(&mut self, rules: Rules, event: Event, view: &mut View) -> Reply<()> {
         match rules.way_of(event) {
             Way::Applied => self.apply_short(event, view),
             Way::Read(id) => self.read(id),
+            Way::Raised(id) => self.raise(id, view),
             Way::Barred => Reply::Refused(Refusal::OutOfRange),
         }
     }

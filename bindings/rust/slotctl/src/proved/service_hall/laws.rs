@@ -1,4 +1,4 @@
-// Erased by bindings/rust/erase from crates/service_hall/src/laws.rt, sha256 904aa9a6a8b3d2e6023c1235c40c21e7d42fe9d0b3d8624bfc8ba1fd888db4e4.
+// Erased by bindings/rust/erase from crates/service_hall/src/laws.rt, sha256 a8b0c9d42f9000a2960c6e232795a16ed8025cad0448377bc271cc89cffe2871.
 //! Laws of a hall, which run nothing.
 
 /// A law of a hall as a service.

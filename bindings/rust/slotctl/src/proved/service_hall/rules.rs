@@ -1,4 +1,4 @@
-// Erased by bindings/rust/erase from crates/service_hall/src/rules.rt, sha256 5b9bc1165f38e2be24f1959cdb04dda9ce533c293746bbc14acdf698cf223871.
+// Erased by bindings/rust/erase from crates/service_hall/src/rules.rt, sha256 d47808aa42ae0d621b07818305addd60bfccc0cfdd67fcb19867c0b84896e16c.
 //! What clients of a hall may ask for.
 
 use crate::proved::model_asked::event::Event;
@@ -13,6 +13,8 @@ pub struct Rules {
     pub widening: bool,
     /// Whether clients may begin and step, which uses up names.
     pub naming: bool,
+    /// Whether a `put` gives the next token in place of its own value.
+    pub tokens: bool,
 }
 
 /// How a hall takes an event of a client.
@@ -22,6 +24,8 @@ pub enum Way {
     Applied,
     /// As a read of this identity, which is stored nowhere.
     Read(u64),
+    /// As a `put` of the next token by this identity.
+    Raised(u64),
     /// Not at all: it is not admitted.
     Barred,
 }
@@ -43,6 +47,15 @@ fn way_of_read(reads: Reads, id: u64) -> Way {
     }
 }
 
+// The way of a `put` by an identity.
+fn way_of_put(tokens: bool, id: u64) -> Way {
+    if tokens {
+        Way::Raised(id)
+    } else {
+        Way::Applied
+    }
+}
+
 impl Rules {
     /// Returns rules by which all is admitted.
     pub fn all(reads: Reads) -> Rules {
@@ -50,6 +63,7 @@ impl Rules {
             reads,
             widening: true,
             naming: true,
+            tokens: false,
         }
     }
 
@@ -59,11 +73,8 @@ impl Rules {
             Event::Begin(_) | Event::Step(_) => applied_if(self.naming),
             Event::Widen(_) => applied_if(self.widening),
             Event::Get(id) => way_of_read(self.reads, id),
-            Event::Enter(_)
-            | Event::Probe(_)
-            | Event::Seek(_)
-            | Event::Leave(_)
-            | Event::Put(_, _) => Way::Applied,
+            Event::Put(id, _) => way_of_put(self.tokens, id),
+            Event::Enter(_) | Event::Probe(_) | Event::Seek(_) | Event::Leave(_) => Way::Applied,
         }
     }
 }

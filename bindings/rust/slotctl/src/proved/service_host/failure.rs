@@ -1,4 +1,4 @@
-// Erased by bindings/rust/erase from crates/service_host/src/failure.rt, sha256 5e996fffff45cb0e904ea47e55c270fc1e01ec25a511efb8d695973be87b8c73.
+// Erased by bindings/rust/erase from crates/service_host/src/failure.rt, sha256 08522faa99c2dcbe7e4b5a7f317698b1a2ef60b331163d3f4eabf0d0a5e34fe6.
 //! Why a hall is not hosted, or no more.
 
 use crate::kit::alloc::AllocError;

@@ -1,4 +1,4 @@
-// Erased by bindings/rust/erase from crates/service_host/src/pool_file.rt, sha256 16c541db0c424aafcbca4d9d9b31dbb200e823fcbb8727a10d6ab1194dec52ba.
+// Erased by bindings/rust/erase from crates/service_host/src/pool_file.rt, sha256 10973db7015833f86e569bfc6c31f8ee2143dfc6da0a100501c7a300fe9d793f.
 //! The pools of a server, as a file lists them.
 
 use crate::kit::alloc::{AllocError, Global};
@@ -35,12 +35,19 @@ fn number_to(word: &str, most: u64) -> Option<u64> {
     }
 }
 
-// The grace time that a word gives, or this one where there is no word.
+// The grace time that a word gives.
+fn grace_in(word: &str) -> Option<Option<u64>> {
+    if word == "forever" {
+        return Some(None);
+    }
+    Some(Some(number_to(word, MOST_GRACE)?))
+}
+
+// The same, or this one where there is no word.
 fn grace_of(word: Option<&str>, grace: Option<u64>) -> Option<Option<u64>> {
     match word {
         None => Some(grace),
-        Some("forever") => Some(None),
-        Some(word) => Some(Some(number_to(word, MOST_GRACE)?)),
+        Some(word) => grace_in(word),
     }
 }
 
@@ -56,17 +63,22 @@ fn pool_of_line<'a>(line: &'a str, grace: Option<u64>) -> Option<PoolPlan<'a>> {
     Some(PoolPlan { name, size, grace })
 }
 
-// Whether a line says nothing: it is empty, or a remark.
+// Whether a line says nothing: it has no word, or is a remark.
 fn is_silent(line: &str) -> bool {
-    match line.trim_ascii().as_bytes().first() {
+    match line.split_ascii_whitespace().next() {
         None => true,
-        Some(byte) => *byte == REMARK,
+        Some(word) => word.as_bytes()[0] == REMARK,
     }
 }
 
 // Whether a pool of this name is among these.
 fn has_name(pools: &[PoolPlan<'_>], name: &str) -> bool {
-    pools.iter().any(|pool| pool.name == name)
+    for pool in pools {
+        if pool.name == name {
+            return true;
+        }
+    }
+    false
 }
 
 // The pool of a line is added to those before it, where it has a name of its own. Says whether it was.

@@ -1,4 +1,4 @@
-// Erased by bindings/rust/erase from crates/service_host/src/pools.rt, sha256 e4e6fa700f1ece29899cd6f2a8645d0c50b33ba3cd97b2d6c82d637bf4ca590d.
+// Erased by bindings/rust/erase from crates/service_host/src/pools.rt, sha256 521e26476b05b8023c82cfde3cf8f55f934887d72606c8bcb85b74341078b472.
 //! A whole server of several pools, by its plan.
 
 use crate::kit::alloc::{AllocError, AllocGlobal, Global};
@@ -65,6 +65,7 @@ fn plan_of<'a>(server: &HostPlan<'a>, pool: PoolPlan<'_>) -> Result<HostPlan<'a>
     Ok(HostPlan {
         config,
         listen: server.listen,
+        owners: server.owners,
         clients: server.clients,
         idle,
         grace: pool.grace,
@@ -178,7 +179,13 @@ fn unrecorded_pool<R: Net + Clock, L: AuditLog>(
         rules: plan.rules,
     };
     let stays = Stays::new(alloc);
-    let attended = Attended::new(reading, stays, plan.grace.is_some(), plan.audit(alloc));
+    let attended = Attended::new(
+        alloc,
+        reading,
+        stays,
+        plan.grace.is_some(),
+        plan.audit(alloc),
+    );
     let persister = Unrecorded {
         alloc,
         compactor: Compactor::new(),
@@ -212,7 +219,13 @@ fn recorded_pool<R: Net + Clock, D: Disk, L: AuditLog, E: Write>(
         return Err(HostFailure::Memory);
     };
     let options = plan.options(reading.service.hall().config().world);
-    let attended = Attended::new(reading, stays, plan.grace.is_some(), plan.audit(alloc));
+    let attended = Attended::new(
+        alloc,
+        reading,
+        stays,
+        plan.grace.is_some(),
+        plan.audit(alloc),
+    );
     match HostedPool::new(rt, alloc, name, options, attended, persister, log) {
         Ok(pool) => Ok(pool),
         Err(fault) => Err(HostFailure::from(fault)),
@@ -295,15 +308,13 @@ fn serve_pools<
 where
     R: Net + Wait + Clock + Files,
 {
-    let Listening { listeners, file } = match listen(rt, alloc, server.listen) {
+    let Listening { listeners, files } = match listen(rt, alloc, server.listen) {
         Ok(listening) => listening,
         Err(fault) => return Err(HostFailure::from(fault)),
     };
     match host_pools(rt, alloc, server.clients, listeners, pools, output, errors) {
         Ok(_) => {
-            if let Some(file) = file {
-                file.remove(rt);
-            }
+            files.remove(rt);
             Ok(())
         }
         Err(fault) => Err(HostFailure::from(fault)),

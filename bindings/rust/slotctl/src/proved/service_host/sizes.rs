@@ -1,4 +1,4 @@
-// Erased by bindings/rust/erase from crates/service_host/src/sizes.rt, sha256 65f735eefd104701e56c8aa00b1381eb70db5362982f1c14d1803db0b7371d43.
+// Erased by bindings/rust/erase from crates/service_host/src/sizes.rt, sha256 471f51c14fc65d3cb4b5197e2c6016a3b4bf11dccbfebc11594ca673d4672be1.
 //! How many numbers the pool of a hall has, and how many it is to have.
 
 use crate::kit::alloc::{AllocError, Global};
@@ -12,9 +12,13 @@ use crate::proved::service_hall::hall::Hall;
 use crate::proved::service_host::failure::HostFailure;
 use crate::proved::service_log::store::Store;
 use crate::proved::service_log::store_fault::StoreFault;
+use crate::proved::text_lines::words::{cut, number};
 
-/// What stands before the size of the pool in the first entry of a log.
-const SIZE_NAME: &[u8] = b" k ";
+/// What parts two words.
+const SPACE: u8 = 32;
+
+/// How many words stand before the size of the pool in the first entry of a log.
+const SIZE_PLACE: u64 = 8;
 
 /// How often a store is asked for one entry, at most; a `Pause` ends it before.
 const MOST_TRIES: u32 = 1_000_000;
@@ -57,14 +61,14 @@ fn are_alike_worlds(kind: WorldKind, other: WorldKind) -> bool {
     other.gives_names() == kind.gives_names() && other.is_tree() == kind.is_tree()
 }
 
-/// Returns true only if two configs are the same, but for the pool: its size, and whether it may have many numbers.
+/// Returns true if and only if two configs are the same, but for the pool: its size, and whether it may have many numbers.
 pub(crate) fn are_alike_but_size(config: Config, other: Config) -> bool {
     are_alike_worlds(config.world, other.world)
         && other.m == config.m
         && other.limit == config.limit
 }
 
-// A config of this world, whose pool has this size, and which is else like another.
+// The config of this world, whose pool has this size, and which is else like another, if there is one.
 fn resized(config: Config, world: WorldKind, size: u64) -> Option<Config> {
     match Config::new(world, config.m, size, config.limit) {
         Ok(resized) if are_alike_but_size(config, resized) => Some(resized),
@@ -72,36 +76,40 @@ fn resized(config: Config, world: WorldKind, size: u64) -> Option<Config> {
     }
 }
 
-// The number behind the name of the size, where the entry tells one. The caller compares the whole entry.
-fn size_told(entry: &[u8]) -> u64 {
-    let at = entry
-        .windows(SIZE_NAME.len())
-        .position(|name| name == SIZE_NAME);
-    let Some(at) = at else {
-        return 0;
+// The word at a place of a line, where the line has so many: single spaces part them.
+fn word_at(line: &[u8], place: u64) -> Option<&[u8]> {
+    let (word, behind) = cut(line, SPACE);
+    if place == 0 {
+        return Some(word);
+    }
+    match behind {
+        Some(behind) => word_at(behind, place - 1),
+        None => None,
+    }
+}
+
+// The size of the pool that the first entry of a log tells.
+fn size_told(entry: &[u8]) -> Option<u64> {
+    number(word_at(entry, SIZE_PLACE)?)
+}
+
+// The config of this world and size that is else like another, if an entry is the first one of a log of such halls.
+fn told_in(
+    alloc: Global,
+    config: Config,
+    world: WorldKind,
+    size: u64,
+    entry: &[u8],
+) -> Result<Option<Config>, AllocError> {
+    let Some(tried) = resized(config, world, size) else {
+        return Ok(None);
     };
-    let mut size: u64 = 0;
-    for byte in &entry[at + SIZE_NAME.len()..] {
-        if !byte.is_ascii_digit() {
-            break;
-        }
-        size = size
-            .saturating_mul(10)
-            .saturating_add(u64::from(*byte - b'0'));
-    }
-    size
+    let is_first = is_first_line(alloc, tried, entry)?;
+    Ok(is_first.then_some(tried))
 }
 
-// Whether an entry is the first one of a log of halls of such a config.
-fn begins(alloc: Global, config: Option<Config>, entry: &[u8]) -> Result<bool, AllocError> {
-    match config {
-        Some(config) => is_first_line(alloc, config, entry),
-        None => Ok(false),
-    }
-}
-
-/// Returns the config that the hall of a log was made with, as the first entry of the log tells. Returns `None` if that differs from this one in more than
-/// the pool.
+/// Returns the config that the hall of a log was made with, as the first entry of the log tells. Returns `None` if and only if that differs from this one in
+/// more than the pool.
 ///
 /// # Errors
 ///
@@ -111,11 +119,12 @@ pub fn config_of_log(
     config: Config,
     entry: &[u8],
 ) -> Result<Option<Config>, AllocError> {
-    let size = size_told(entry);
-    for world in [config.world, WorldKind::Rename, WorldKind::Wide] {
-        let tried = resized(config, world, size);
-        if begins(alloc, tried, entry)? {
-            return Ok(tried);
+    let Some(size) = size_told(entry) else {
+        return Ok(None);
+    };
+    for world in WorldKind::all() {
+        if let Some(told) = told_in(alloc, config, world, size, entry)? {
+            return Ok(Some(told));
         }
     }
     Ok(None)
@@ -142,7 +151,7 @@ fn read_first<S: Store, P: Pause>(
     Err(StoreFault::Lost)
 }
 
-/// Returns the config that the hall of a log was made with, if that differs from this one in the size of the pool alone, and else this one.
+/// Returns the config that the hall of a log was made with, if that differs from this one in the pool alone, and else this one.
 ///
 /// # Errors
 ///

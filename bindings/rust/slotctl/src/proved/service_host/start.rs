@@ -1,4 +1,4 @@
-// Erased by bindings/rust/erase from crates/service_host/src/start.rt, sha256 eb84565c205dfef70b82d592be2e0afe279ccfe5a906eba6226689c4cdf22d4b.
+// Erased by bindings/rust/erase from crates/service_host/src/start.rt, sha256 70c377791fb376fb033e48a14e5d6b4776fdf7ac67a78850d3f5f913e9772bf4.
 //! A whole server of a hall, by its plan.
 
 use crate::kit::alloc::{AllocGlobal, Global};
@@ -69,8 +69,10 @@ pub enum Keeping<'a> {
 pub struct HostPlan<'a> {
     /// The world of the hall, in which names are given, and its sizes.
     pub config: Config,
-    /// What is listened on. Whoever reaches it may say everything: nothing is encrypted, nobody is asked who he is.
+    /// What is listened on. Nothing is encrypted. Unless clients own their identities, whoever reaches it may say everything.
     pub listen: ListenPlan<'a>,
+    /// Whether clients own their identities by secrets. Who connects to the socket for administrators names every identity.
+    pub owners: bool,
     /// How many clients are served at once; others wait to be accepted.
     pub clients: usize,
     /// After how many seconds a client that says nothing is closed; never, where it is not given.
@@ -94,6 +96,8 @@ impl HostPlan<'_> {
     pub(crate) fn options(&self, kind: WorldKind) -> HostOptions {
         HostOptions {
             kind,
+            tokens: self.rules.tokens,
+            owners: self.owners,
             clients: self.clients,
             idle: self.idle,
             grace: self.grace,
@@ -116,7 +120,7 @@ impl HostPlan<'_> {
     }
 }
 
-// Listens, and serves clients of a service over a world of this kind. Where that ended well the file of the socket is removed.
+// Listens, and serves clients of a service over a world of this kind. Where that ended well the files of the sockets are removed.
 fn serve<R, D, K, L: AuditLog, W: Write, E: Write>(
     rt: &R,
     alloc: Global,
@@ -134,12 +138,18 @@ where
     D: Service<R>,
     K: Persist<D>,
 {
-    let Listening { listeners, file } = match listen(rt, alloc, plan.listen) {
+    let Listening { listeners, files } = match listen(rt, alloc, plan.listen) {
         Ok(listening) => listening,
         Err(fault) => return Err(fault),
     };
     let mut persister = persister;
-    let mut attended = Attended::new(service, stays, plan.grace.is_some(), plan.audit(alloc));
+    let mut attended = Attended::new(
+        alloc,
+        service,
+        stays,
+        plan.grace.is_some(),
+        plan.audit(alloc),
+    );
     let hosted = host(
         rt,
         alloc,
@@ -153,9 +163,7 @@ where
     );
     match hosted {
         Ok(_) => {
-            if let Some(file) = file {
-                file.remove(rt);
-            }
+            files.remove(rt);
             Ok(Ok(()))
         }
         Err(fault) => Ok(Err(fault)),
@@ -472,7 +480,7 @@ pub(crate) fn open_audit<'a, R: Files<File = File>>(
 /// Where a file lists pools, each is such a hall, with a journal of its own, and clients choose one by their first line (`host_pool_file`).
 ///
 /// The first lines written are `listening ADDRESS:PORT` and `listening PATH`, of what is listened on, and `metrics ADDRESS:PORT`; the last is
-/// `served N`. At a good end the file of the socket is removed. Where the journal cannot be written, nothing is sent of that
+/// `served N`. At a good end the files of the sockets are removed. Where the journal cannot be written, nothing is sent of that
 /// turn, and the server ends.
 ///
 /// # Errors

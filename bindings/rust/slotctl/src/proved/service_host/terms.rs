@@ -1,4 +1,4 @@
-// Erased by bindings/rust/erase from crates/service_host/src/terms.rt, sha256 cda60fc5f10b8a08f7de704d77abdcb03d0c53f597d57a9f9b27f3c5ccae6ced.
+// Erased by bindings/rust/erase from crates/service_host/src/terms.rt, sha256 089e79fc675d90db96694df8d2f4e0ec9e2231c5a7320e2243c838ae3d0bf800.
 //! For how long stays go on in a hall over a log, and how an operator changes that.
 
 use crate::kit::alloc::Global;

@@ -1,4 +1,4 @@
-// Erased by bindings/rust/erase from crates/service_log/src/etcd.rt, sha256 061a448b70e50ad5160e3b2df5105bf3445eb2db917806dfd65fc0705a980f1d.
+// Erased by bindings/rust/erase from crates/service_log/src/etcd.rt, sha256 cdd2975bba82dea6e23a6f97d65ba06bd0a94e08f6d245babe19bda879a07ae8.
 //! A store over etcd: places that are written once, by the JSON gateway that each member of etcd has.
 //!
 //! The key of a place is its prefix and 16 digits. A put is a transaction that puts a value if its key was never
@@ -13,6 +13,10 @@
 //! `EtcdStore` asks its members in turn, over any `Dial`. `TcpDial` makes streams over TCP, with a time limit for each
 //! read and write. After a fault the store drops the connection and asks the next member the same, each member at most
 //! twice. A put whose answer was lost then finds the place taken, by its own entry.
+//!
+//! An append puts a value at the first of four keys that was never created, by one transaction in another, and gets what is
+//! there (`append_text`, `read_append`). It compares at which revision one key was changed last, the fence. After a fault
+//! the store changes the fence (`fence_text`) before it offers anything, so no append of before is written later.
 //!
 //! A trim notes the place below which entries are given up, and deletes them by one transaction after another
 //! (`trim_text`). The first of them writes the note.

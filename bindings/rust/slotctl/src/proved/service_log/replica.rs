@@ -1,11 +1,11 @@
-// Erased by bindings/rust/erase from crates/service_log/src/replica.rt, sha256 44e48948bede22834fa0a95e3495ba62b173269ffee8cc1ab5f3a70af57f32e3.
+// Erased by bindings/rust/erase from crates/service_log/src/replica.rt, sha256 b44f23f07cd0760372241b9c7d77476d2b42a66e731e0a3a33bfc6763d2dd04d.
 //! A machine that follows a log.
 
 use crate::kit::alloc::Global;
 use crate::kit::Vec;
-use crate::proved::service_log::machine::Machine;
+use crate::proved::service_log::machine::{ApplyFault, Machine};
 use crate::proved::service_log::serve_fault::{Cause, ServeFault};
-use crate::proved::service_log::store::{Put, Store, MOST_PLACES};
+use crate::proved::service_log::store::{Append, Put, Store, MOST_PLACES};
 
 /// The most bytes of a batch.
 pub const MOST_BATCH: usize = 65_536;
@@ -185,7 +185,89 @@ impl<M: Machine> Replica<M> {
         result
     }
 
-    /// Serves a batch: puts it into the log, applies all entries before it and then the batch, and returns its replies.
+    // Applies the entries at the places before `at`, and drops their replies. `Busy` is a store that lacks a place which it
+    // said was taken.
+    fn reach<S: Store>(
+        &mut self,
+        store: &mut S,
+        at: u64,
+        replies: &mut M::Replies,
+    ) -> Result<(), Cause> {
+        let missing = at - self.place;
+        let passed = self.catch_up(store, missing, replies);
+        self.behind = true;
+        passed?;
+        if self.place < at {
+            return Err(Cause::Busy);
+        }
+        Ok(())
+    }
+
+    // Applies a batch that this replica wrote at its place.
+    fn apply_own(&mut self, own: &[u8], replies: &mut M::Replies) -> Result<(), ApplyFault> {
+        if let Err(fault) = self.machine.apply(own, replies) {
+            self.poisoned = true;
+            return Err(fault);
+        }
+        self.place += 1;
+        self.behind = false;
+        Ok(())
+    }
+
+    // Appends a batch to the log, applies the entries before it and then the batch, if this call wrote it.
+    fn write<S: Store>(
+        &mut self,
+        store: &mut S,
+        batch: &[u8],
+        replies: &mut M::Replies,
+    ) -> Result<Step, Cause> {
+        self.behind = true;
+        let at = match store.append(self.place, batch) {
+            Ok(Append::At(at)) => at,
+            Ok(Append::Nowhere) => return Ok(Step::Nothing),
+            Err(fault) => return Err(Cause::Store(fault)),
+        };
+        self.reach(store, at, replies)?;
+        if let Err(fault) = self.apply_own(batch, replies) {
+            return Err(Cause::of_apply(fault));
+        }
+        Ok(Step::Answered)
+    }
+
+    // Makes one step for a batch that may come to stand behind other entries, and leaves any replies.
+    fn progress<S: Store>(
+        &mut self,
+        store: &mut S,
+        batch: &[u8],
+        replies: &mut M::Replies,
+    ) -> Result<Step, Cause> {
+        if self.place >= MOST_PLACES {
+            return Err(Cause::Full);
+        }
+        let behind = self.behind;
+        if behind {
+            self.follow(store, batch, replies)
+        } else {
+            self.write(store, batch, replies)
+        }
+    }
+
+    // Makes one step for a batch as `progress` does. The replies are none unless the result is `Answered`.
+    fn stride<S: Store>(
+        &mut self,
+        store: &mut S,
+        batch: &[u8],
+        replies: &mut M::Replies,
+    ) -> Result<Step, Cause> {
+        let result = self.progress(store, batch, replies);
+        let is_answered = result == Ok(Step::Answered);
+        if !is_answered {
+            M::forget(replies);
+        }
+        result
+    }
+
+    /// Serves a batch: appends it to the log, applies all entries before it and then the batch, and returns its replies.
     ///
     /// This call writes the batch at most once, also if it fails. After an error the replies are none.
     ///
@@ -213,7 +295,7 @@ impl<M: Machine> Replica<M> {
             return Err(ServeFault::Unknown(Cause::Poisoned));
         }
         for _ in 0..MOST_STEPS {
-            match self.step(store, batch, replies) {
+            match self.stride(store, batch, replies) {
                 Ok(Step::Answered) => return Ok(()),
                 Ok(Step::Passed | Step::Nothing) => {}
                 Err(cause) => return Err(ServeFault::Unknown(cause)),

@@ -1,4 +1,4 @@
-// Erased by bindings/rust/erase from crates/service_log/src/store.rt, sha256 33e76400c480b27eed7873097a09dd902f1d789db3f638ff5ec5d9e349d023fc.
+// Erased by bindings/rust/erase from crates/service_log/src/store.rt, sha256 e4dae170d255312a44fa8c993d953656afcdde5b53415c7b2ff4723fcc3bc388.
 //! Stores: logs whose places are written once.
 
 use crate::kit::Vec;
@@ -16,6 +16,15 @@ pub enum Put {
     Taken,
 }
 
+/// What an append did.
+#[derive(Clone, Copy, Debug, PartialEq, Eq)]
+pub enum Append {
+    /// This call wrote the entry at this place. All places before it were taken.
+    At(u64),
+    /// This call wrote nothing: the place was taken.
+    Nowhere,
+}
+
 /// Places from 0 on, each of which is written at most once, by the first caller.
 ///
 /// No contract can say what a store over a network holds. The relations `stands` and `lacks` of such a store say
@@ -28,6 +37,15 @@ pub trait Store: Sized {
     /// After any fault the entry may be at the place, or get there later. The fault is one of `fails`. `Gap` is
     /// returned only if a place before this one is empty.
     fn put(&mut self, place: u64, entry: &[u8]) -> Result<Put, StoreFault>;
+
+    /// Writes an entry at the first place from `place` on that was never written, if it is one of the next ones. The store
+    /// says how many it tries.
+    ///
+    /// # Errors
+    ///
+    /// After any fault the entry may be at one of these places, or get there later, and never at two of them. The fault is
+    /// one of `fails`. `Gap` is returned only if a place before this one is empty.
+    fn append(&mut self, place: u64, entry: &[u8]) -> Result<Append, StoreFault>;
 
     /// Stores the entry at a place in `entry`, in place of what it held. Returns false if the place is empty.
     ///

@@ -1,4 +1,4 @@
-// Erased by bindings/rust/erase from crates/service_loop/src/asking.rt, sha256 d8e47eb0318acd94b64dc1acb2a0ab2286bf84384850dd3eb56de67da56e1f8f.
+// Erased by bindings/rust/erase from crates/service_loop/src/asking.rt, sha256 a0c8a7e79ac8a92fe10a5c8a39432854872cc5b5bab467e49316f4bad9f9e94f.
 //! Lines that the server answers by itself, among bytes: those that ask who holds numbers or the terms, and those that take a number.
 
 use crate::kit::memchr::{memchr, memrchr};
@@ -14,6 +14,9 @@ const ASKS: u8 = b'h';
 
 /// What each line that takes a number begins with, and the one that asks for the terms, and no command.
 const TAKES: u8 = b't';
+
+/// What each line that asks for changes begins with. It has the letter too that no command has.
+const WATCHES: u8 = b'w';
 
 /// A letter of each line that takes a number, and of no command.
 const INSIDE: u8 = b'k';
@@ -62,7 +65,7 @@ pub(crate) fn is_own(line: &[u8]) -> bool {
 // Whether the first of these bytes is that of a line that the server answers by itself.
 fn begins(bytes: &[u8]) -> bool {
     match bytes {
-        [first, ..] => *first == ASKS || *first == TAKES,
+        [first, ..] => *first == ASKS || *first == TAKES || *first == WATCHES,
         [] => false,
     }
 }

@@ -1,12 +1,14 @@
-// Erased by bindings/rust/erase from crates/service_loop/src/attended.rt, sha256 108fcf6d4d7017e0ef668b6a8d6498d75492e2748749b07c1d12704c851fc95d.
+// Erased by bindings/rust/erase from crates/service_loop/src/attended.rt, sha256 046c9cb042d08406ada3db7ab2ad625666828fb322a55ef93bc4f8ef4e363eaf.
 //! A service, and who keeps the stays in its pool.
 
+use crate::kit::alloc::Global;
 use crate::proved::model_asked::event::Event;
 use crate::proved::model_asked::reply::Reply;
 use crate::proved::model_pool::stays::stays::Stays;
 use crate::proved::model_steps::refusal::Refusal;
 use crate::proved::model_steps::view::View;
 use crate::proved::service_loop::audit::Audit;
+use crate::proved::service_loop::feed::Feed;
 use crate::proved::text_player::service::Service;
 
 /// The number of no connection. It keeps a stay that may have begun, though no connection may be answered so.
@@ -35,6 +37,8 @@ pub struct Attended<D> {
     pub lacks: bool,
     /// What is told of numbers and refusals.
     pub audit: Audit,
+    /// What changes of who holds numbers.
+    pub changes: Feed,
 }
 
 // Whether who said `enter` keeps the stay, by the reply to it.
@@ -49,7 +53,7 @@ fn gives_back(reply: &Reply<()>) -> bool {
 
 impl<D> Attended<D> {
     /// A service with these stays. Where it does not keep them, they stay as they are.
-    pub fn new(service: D, stays: Stays, keeps: bool, audit: Audit) -> Attended<D> {
+    pub fn new(alloc: Global, service: D, stays: Stays, keeps: bool, audit: Audit) -> Attended<D> {
         Attended {
             service,
             stays,
@@ -57,6 +61,7 @@ impl<D> Attended<D> {
             speaker: 0,
             lacks: false,
             audit,
+            changes: Feed::new(alloc),
         }
     }
 
@@ -146,6 +151,7 @@ fn apply_and_hear<R, D: Service<R>>(
 ) -> Reply<()> {
     let reply = attended.service.apply(rt, event, view);
     attended.audit.note(attended.speaker, event, &reply);
+    attended.changes.note(event, &reply);
     attended.hear(event, &reply);
     reply
 }
@@ -157,6 +163,7 @@ impl<R, D: Service<R>> Service<R> for Attended<D> {
         if !self.keeps {
             let reply = self.service.apply(rt, event, view);
             self.audit.note(self.speaker, event, &reply);
+            self.changes.note(event, &reply);
             return reply;
         }
         apply_and_hear(self, rt, event, view)

@@ -1,4 +1,4 @@
-// Erased by bindings/rust/erase from crates/service_loop/src/audit.rt, sha256 bdea57cf7e55d275d63b78e54d436fe783a135cb5bfb49916741554de050c53a.
+// Erased by bindings/rust/erase from crates/service_loop/src/audit.rt, sha256 f836a8a93a615ef7111440e978a3113517c4f4512ddc877931c2609fdcb84091.
 //! What is counted of refusals and of numbers that were given back, and told of them in a log.
 
 use crate::kit::alloc::{AllocError, Global};
@@ -9,7 +9,8 @@ use crate::kit::Vec;
 use crate::proved::model_asked::event::Event;
 use crate::proved::model_asked::reply::Reply;
 use crate::proved::model_steps::refusal::Refusal;
-use crate::proved::service_loop::audit_lines::{identity_of, refused_act, AuditLines};
+use crate::proved::service_loop::audit_lines::{refused_act, AuditLines};
+use crate::proved::service_loop::change::identity_of;
 use crate::proved::service_watch::numbers::{Releases, REFUSALS};
 
 /// Who has the service apply events.

@@ -1,4 +1,4 @@
-// Erased by bindings/rust/erase from crates/service_loop/src/audit_lines.rt, sha256 f4152fcbad7800baa87e500dcddd940abf1835bc43811fd6d4669bee00f65a59.
+// Erased by bindings/rust/erase from crates/service_loop/src/audit_lines.rt, sha256 22e8a2a692ad299f5db041bde824785c7fa8ded47258b37a469b3fd5331724a4.
 //! The lines of a log of who took numbers, who gave them back, and who was refused.
 
 use crate::kit::alloc::{AllocError, Global};
@@ -10,6 +10,7 @@ use crate::kit::String;
 use crate::kit::Vec;
 use crate::proved::model_asked::event::Event;
 use crate::proved::model_steps::refusal::Refusal;
+use crate::proved::service_loop::change::identity_of;
 
 /// The most bytes of lines that wait. Lines behind them are lost until those are written.
 const MOST_WAITING: usize = 16_777_216;
@@ -43,21 +44,6 @@ fn seconds<R: Clock>(rt: &R) -> u64 {
             Err(_) => 0,
         },
         Err(_) => 0,
-    }
-}
-
-/// Whose event it is; of `widen` the size.
-pub(crate) fn identity_of(event: Event) -> u64 {
-    match event {
-        Event::Begin(id)
-        | Event::Step(id)
-        | Event::Enter(id)
-        | Event::Probe(id)
-        | Event::Seek(id)
-        | Event::Leave(id)
-        | Event::Put(id, _)
-        | Event::Get(id)
-        | Event::Widen(id) => id,
     }
 }
 

@@ -1,4 +1,4 @@
-// Erased by bindings/rust/erase from crates/service_loop/src/buffers.rt, sha256 23dcfaa27332f6af9b231869d766ca68c6f90c3eb7699e21a5133f76c8a1c6be.
+// Erased by bindings/rust/erase from crates/service_loop/src/buffers.rt, sha256 dc304e3a87d3dee5a80038f2abfc2e6065d9501783e809d3a15172af104c304c.
 //! A connection without its stream.
 
 use crate::kit::alloc::Allocator;
@@ -38,8 +38,8 @@ pub struct Buffers<A: Allocator> {
     in_line: bool,
 }
 
-// Takes away the first bytes. Where none is left, their room goes back, and nothing is moved.
-fn drop_front<A: Allocator>(bytes: &mut Vec<u8, A>, count: usize) {
+/// Takes away the first bytes. Where none is left, their room goes back, and nothing is moved.
+pub(crate) fn drop_front<A: Allocator>(bytes: &mut Vec<u8, A>, count: usize) {
     if count == bytes.len() {
         bytes.clear();
         bytes.shrink_to_fit();

@@ -1,4 +1,4 @@
-// Erased by bindings/rust/erase from crates/service_loop/src/connection.rt, sha256 773ed4d3b8bac72bdbe2222e0b10dd252f6bd38380d808929d0846ff54362ce9.
+// Erased by bindings/rust/erase from crates/service_loop/src/connection.rt, sha256 16c5de37d19c2d81185fefaa743f7b02d075272c40999705d5456ba7a0088021.
 //! A connection: its stream, and what is held of it.
 
 use crate::kit::alloc::Allocator;
@@ -7,15 +7,18 @@ use crate::kit::io::ErrorKind;
 use crate::kit::Vec;
 use crate::proved::model_asked::kind::WorldKind;
 use crate::proved::service_loop::buffers::Buffers;
+use crate::proved::service_loop::feed::Feed;
+use crate::proved::service_loop::first_point::FirstPoint;
+use crate::proved::service_loop::manner::Manner;
 use crate::proved::service_loop::peek::{Limits, Peek};
 use crate::proved::service_loop::persist::Persist;
 use crate::proved::service_loop::shared::{SharedBuffers, READ_ROOM};
 use crate::proved::service_loop::stream::Stream;
 use crate::proved::service_loop::take_line::TakeLine;
-use crate::proved::service_loop::taking::{is_crowded, say_taking};
+use crate::proved::service_loop::taking::{is_crowded, print_taken, take_with_token};
 use crate::proved::service_loop::terms::{put_answer, Query, Terms};
+use crate::proved::service_loop::watch_line::{end_told, WatchQuery};
 use crate::proved::text_lines::held::query::QUERY_MAX;
-use crate::proved::text_lines::print::print_reply;
 use crate::proved::text_player::service::Service;
 
 /// So many bytes are read at most, behind the beginning of a line that may ask who holds numbers, or take one.
@@ -327,13 +330,15 @@ impl<S: Stream, A: Allocator> Connection<S, A> {
         }
     }
 
-    /// Answers the line that waits first, where that asks who holds numbers or the terms and there is room. Who holds numbers the persister tells:
-    /// where the service prefetches its answers, only if the line was looked at.
+    /// Answers the line that waits first, where that asks who holds numbers, what changes of that, or the terms, and there is room. Who holds numbers the
+    /// persister tells: where the service prefetches its answers, only if the line was looked at. Changes are told once there are any.
     pub fn answer<D, K: Persist<D>, B: Allocator>(
         &mut self,
         service: &D,
         persister: &K,
         terms: Terms,
+        feed: &Feed,
+        first: &FirstPoint,
         shared: &mut SharedBuffers<B>,
     ) {
         self.stage = ConnectionStage::Taken;
@@ -341,18 +346,36 @@ impl<S: Stream, A: Allocator> Connection<S, A> {
             return;
         }
         if let Some((query, count)) = self.buffers.query() {
-            if self.may_ask(query) {
-                put_answer(service, persister, terms, query, &mut shared.replies);
+            if self.may_ask(query, end_told(feed, first)) {
+                put_answer(
+                    service,
+                    persister,
+                    terms,
+                    feed,
+                    first,
+                    query,
+                    &mut shared.replies,
+                );
                 self.buffers.answer(count, &mut shared.replies);
             }
         }
     }
 
-    // Whether a line that asks this may be answered in this turn: who holds numbers only where all is known that was kept before.
-    fn may_ask(&self, query: Query) -> bool {
+    // Whether a line that asks this may be answered in this turn: who holds numbers only where all is known that was kept before, and changes only where
+    // there are any from that point on. They end at this one.
+    fn may_ask(&self, query: Query, end: u64) -> bool {
         match (self.peek, query) {
             (Some(peek), Query::Holders(_)) => peek.holds,
+            (_, Query::Changes(WatchQuery::From(point))) => self.hung || point != end,
             _ => true,
+        }
+    }
+
+    /// Whether the line that waits first asks for changes from their end on, so that it is answered once there are any.
+    pub fn watches(&self, end: u64) -> bool {
+        match self.buffers.query() {
+            Some((Query::Changes(query), _)) => !self.may_ask(Query::Changes(query), end),
+            _ => false,
         }
     }
 
@@ -383,14 +406,14 @@ impl<S: Stream, A: Allocator> Connection<S, A> {
     }
 
     /// Takes a number, where the line that waits first takes one and there is room for the answer: by events of the service, one after another, of
-    /// which the last reply is the answer (`say_taking`). Where those who are called are patient, one that waits for seconds and is refused since all are
-    /// held waits on.
+    /// which the last reply is the answer, and where tokens are given the token stands behind it (`take_with_token`). Where those who are called are patient,
+    /// one that waits for seconds and is refused since all are held waits on.
     pub fn take_number<R, D: Service<R>, B: Allocator>(
         &mut self,
         rt: &R,
         service: &mut D,
         shared: &mut SharedBuffers<B>,
-        wide: bool,
+        manner: Manner,
         ahead: bool,
     ) {
         self.stage = ConnectionStage::Taken;
@@ -398,11 +421,11 @@ impl<S: Stream, A: Allocator> Connection<S, A> {
             return;
         }
         if let Some((identity, count)) = self.buffers.taking() {
-            let reply = say_taking(rt, service, &mut shared.view, identity, wide, ahead);
-            if shared.patient && 0 < self.buffers.wait() && is_crowded(&reply) {
+            let taken = take_with_token(rt, service, &mut shared.view, identity, manner, ahead);
+            if shared.patient && 0 < self.buffers.wait() && is_crowded(&taken.answer) {
                 return;
             }
-            print_reply(reply, &shared.view, &mut shared.replies);
+            print_taken(taken, &shared.view, &mut shared.replies);
             self.buffers.answer(count, &mut shared.replies);
         }
     }

@@ -1,4 +1,4 @@
-// Erased by bindings/rust/erase from crates/service_loop/src/connections.rt, sha256 f6841fa022dffd25a44ed857f26a8b9163797366a7115e8593fcb7bdee0d048e.
+// Erased by bindings/rust/erase from crates/service_loop/src/connections.rt, sha256 445ae61dbf2c839b7aabf2ce8a0c33324ba5c4468244c44b898fdda67f80e468.
 //! The connections of a server, their seats, and who is to have a turn.
 
 use crate::kit::alloc::{AllocError, Global};
@@ -17,6 +17,7 @@ use crate::proved::service_loop::seat_numbers::SeatNumbers;
 use crate::proved::service_loop::socket::Socket;
 use crate::proved::service_loop::take_queue::TakeQueue;
 use crate::proved::service_loop::turns::number_at;
+use crate::proved::service_loop::watchers::Watchers;
 use std::mem;
 
 /// For so many clients at most room is taken at once, in lists that lie below all that clients make grow: so what those leave goes back to
@@ -44,6 +45,8 @@ pub struct ConnectionTable {
     pub ended: Vec<Ending>,
     /// How many lines were taken of those that have left.
     lines: u64,
+    /// The seats whose connections wait for changes of who holds numbers.
+    watchers: Watchers,
     later: Vec<usize>,
     empty: Vec<usize>,
 }
@@ -131,6 +134,7 @@ impl ConnectionTable {
             faults: 0,
             ended: Vec::new(alloc),
             lines: 0,
+            watchers: Watchers::new(alloc),
             later: Vec::with_capacity(alloc, few)?,
             empty: Vec::with_capacity(alloc, few)?,
         })
@@ -229,13 +233,21 @@ impl ConnectionTable {
         Ok(())
     }
 
-    // After its turn a connection leaves, or is due again, or waits for the system; one that waits for a number is due only if it can send.
-    fn settle_one(&mut self, key: usize, tick: u64, queue: &TakeQueue) -> Result<(), AllocError> {
-        let waits = queue.has(number_at(self.numbers.all(), key));
+    // After its turn a connection leaves, or is due again, or waits for the system; one that waits for a number or for changes is due only if it can
+    // send. Changes end at this point.
+    fn settle_one(
+        &mut self,
+        key: usize,
+        tick: u64,
+        queue: &TakeQueue,
+        end: u64,
+    ) -> Result<(), AllocError> {
+        let is_queued = queue.has(number_at(self.numbers.all(), key));
         let Some(connection) = self.seated(key) else {
             return Ok(());
         };
         let is_over = connection.buffers.is_over();
+        let watches = connection.watches(end);
         if connection.is_done() {
             return self.leave(key);
         }
@@ -244,9 +256,12 @@ impl ConnectionTable {
         } else if connection.buffers.unsent().is_empty() {
             connection.stream.end();
         }
-        if connection.goes_on() && (!waits || connection.can_send()) {
+        if connection.goes_on() && (!is_queued && !watches || connection.can_send()) {
             connection.stage = ConnectionStage::Queued;
             self.later.push(key)?;
+        }
+        if watches {
+            self.watchers.add(key)?;
         }
         if is_over {
             self.note_end(key, true)?;
@@ -316,8 +331,14 @@ impl ConnectionTable {
         Ok(())
     }
 
+    // Those who wait for changes are due again, where there are any: they end at this point.
+    fn wake_watchers(&mut self, end: u64) -> Result<(), AllocError> {
+        let due = self.watchers.take_due(end);
+        self.wake_all(&due)
+    }
+
     /// After a turn in which the first `called` ready seats were called: those that have more to do are due again, behind the others, and those that
-    /// were called to take numbers.
+    /// were called to take numbers. Those are too who wait for changes of who holds numbers, where there are any: they end at this point.
     ///
     /// # Errors
     ///
@@ -327,14 +348,16 @@ impl ConnectionTable {
         called: usize,
         tick: u64,
         queue: &TakeQueue,
+        end: u64,
     ) -> Result<(), AllocError> {
         for at in 0..called {
             if at < self.ready.len() {
                 let key = self.ready[at];
-                self.settle_one(key, tick, queue)?;
+                self.settle_one(key, tick, queue, end)?;
             }
         }
         self.wake_all(queue.called())?;
+        self.wake_watchers(end)?;
         let from = called.min(self.ready.len());
         self.queue_again(from)
     }
@@ -347,7 +370,8 @@ impl ConnectionTable {
         Ok(())
     }
 
-    /// Closes each connection of which nothing came or went for `idle` ticks, or for ten if it is at its end, but none that waits for a number.
+    /// Closes each connection of which nothing came or went for `idle` ticks, or for ten if it is at its end, but none that waits for a number or for
+    /// changes.
     ///
     /// # Errors
     ///
@@ -377,7 +401,7 @@ impl ConnectionTable {
         if !is_swept_at(&self.seats, key, tick, idle) {
             return Ok(());
         }
-        if queue.has(number_at(self.numbers.all(), key)) {
+        if queue.has(number_at(self.numbers.all(), key)) || self.watchers.has(key) {
             return Ok(());
         }
         if !is_leaving_at(&self.seats, key) {

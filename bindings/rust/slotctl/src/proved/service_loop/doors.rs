@@ -1,4 +1,4 @@
-// Erased by bindings/rust/erase from crates/service_loop/src/doors.rt, sha256 c1217d3d5755fafdef50218b9330ecd8d9ce1f57074b4b305124b8c0da9fab74.
+// Erased by bindings/rust/erase from crates/service_loop/src/doors.rt, sha256 92107e3c002db958133ebdae762a282373eed86e5afccb0a2833b20618bc5ecf.
 //! The listeners for clients, and who waits there.
 
 use crate::kit::io;
@@ -6,7 +6,7 @@ use crate::kit::io::ErrorKind;
 use crate::kit::mio::net::TcpListener;
 use crate::kit::mio::{Interest, Poll, Token};
 use crate::kit::net::SocketAddr;
-use crate::proved::service_loop::socket::Socket;
+use crate::proved::service_loop::socket::{Socket, Wire};
 use crate::proved::service_watch::listeners::socket_file::LocalListener;
 
 /// The token of the listener of the network; no seat has it.
@@ -15,13 +15,18 @@ const NETWORK: Token = Token(1 << 60);
 /// The token of the listener of this machine; no seat has it.
 const LOCAL: Token = Token((1 << 60) + 2);
 
+/// The token of the listener for administrators; no seat has it.
+const ADMIN: Token = Token((1 << 60) + 3);
+
 /// The listeners for clients.
 pub struct Doors {
     network: Option<TcpListener>,
     local: Option<LocalListener>,
+    admin: Option<LocalListener>,
     /// Whether connections may wait at each to be accepted: the system tells only once that some do.
     network_waits: bool,
     local_waits: bool,
+    admin_waits: bool,
     /// Whether it is the turn of the one for this machine, where connections wait at both.
     local_next: bool,
 }
@@ -48,6 +53,18 @@ fn not_accepted(error: &io::Error, waits: &mut bool) -> Accepted {
     }
 }
 
+// Accepts one at a socket of the file system, if one waits.
+fn accept_at(local: &Option<LocalListener>, waits: &mut bool, admin: bool) -> Accepted {
+    let Some(local) = local else {
+        *waits = false;
+        return Accepted::Nobody;
+    };
+    match local.listener.accept() {
+        Ok((stream, _)) => Accepted::Stream(Socket::new(Wire::Local(stream), admin), None),
+        Err(error) => not_accepted(&error, waits),
+    }
+}
+
 impl Doors {
     /// Listeners of which a poll tells when connections wait there.
     ///
@@ -58,12 +75,15 @@ impl Doors {
         poll: &Poll,
         network: Option<TcpListener>,
         local: Option<LocalListener>,
+        admin: Option<LocalListener>,
     ) -> io::Result<Doors> {
         let mut doors = Doors {
             network,
             local,
+            admin,
             network_waits: false,
             local_waits: false,
+            admin_waits: false,
             local_next: false,
         };
         doors.register(poll)?;
@@ -80,6 +100,10 @@ impl Doors {
             poll.registry()
                 .register(&mut local.listener, LOCAL, Interest::READABLE)?;
         }
+        if let Some(admin) = &mut self.admin {
+            poll.registry()
+                .register(&mut admin.listener, ADMIN, Interest::READABLE)?;
+        }
         Ok(())
     }
 
@@ -89,6 +113,8 @@ impl Doors {
             self.network_waits = true;
         } else if token == LOCAL {
             self.local_waits = true;
+        } else if token == ADMIN {
+            self.admin_waits = true;
         } else {
             return false;
         }
@@ -97,7 +123,7 @@ impl Doors {
 
     /// Whether connections may wait to be accepted.
     pub fn are_waited_at(&self) -> bool {
-        self.network_waits || self.local_waits
+        self.network_waits || self.local_waits || self.admin_waits
     }
 
     // Accepts one of the network, if one waits.
@@ -107,25 +133,28 @@ impl Doors {
             return Accepted::Nobody;
         };
         match listener.accept() {
-            Ok((stream, peer)) => Accepted::Stream(Socket::Network(stream), Some(peer)),
+            Ok((stream, peer)) => {
+                Accepted::Stream(Socket::new(Wire::Network(stream), false), Some(peer))
+            }
             Err(error) => not_accepted(&error, &mut self.network_waits),
         }
     }
 
     // Accepts one of this machine, if one waits.
     fn accept_local(&mut self) -> Accepted {
-        let Some(local) = &self.local else {
-            self.local_waits = false;
-            return Accepted::Nobody;
-        };
-        match local.listener.accept() {
-            Ok((stream, _)) => Accepted::Stream(Socket::Local(stream), None),
-            Err(error) => not_accepted(&error, &mut self.local_waits),
-        }
+        accept_at(&self.local, &mut self.local_waits, false)
     }
 
-    /// Accepts one connection, if one waits: by turns where some wait at both listeners.
+    // Accepts an administrator, if one waits.
+    fn accept_admin(&mut self) -> Accepted {
+        accept_at(&self.admin, &mut self.admin_waits, true)
+    }
+
+    /// Accepts one connection, if one waits: an administrator first, and then by turns where some wait at both other listeners.
     pub fn accept(&mut self) -> Accepted {
+        if self.admin_waits {
+            return self.accept_admin();
+        }
         self.local_next = !self.local_next;
         if self.local_waits && (self.local_next || !self.network_waits) {
             self.accept_local()
@@ -150,6 +179,14 @@ impl Doors {
     pub fn path(&self) -> Option<&str> {
         match &self.local {
             Some(local) => Some(local.path.as_str()),
+            None => None,
+        }
+    }
+
+    /// The path that is listened on for administrators, where one is.
+    pub fn admin_path(&self) -> Option<&str> {
+        match &self.admin {
+            Some(admin) => Some(admin.path.as_str()),
             None => None,
         }
     }

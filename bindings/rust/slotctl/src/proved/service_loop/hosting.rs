@@ -1,4 +1,4 @@
-// Erased by bindings/rust/erase from crates/service_loop/src/hosting.rt, sha256 8ac705b367152b963da16a5e79659965d4e4f9fb68dc5345663cfd92bc14d3e0.
+// Erased by bindings/rust/erase from crates/service_loop/src/hosting.rt, sha256 0321864bb90401fc6c4d35a04b32f6c5ae913c0c8e0c5688f137dbe0f59a1ccd.
 //! A server in one thread, by the readiness of its sockets.
 
 use crate::kit::alloc::{AllocError, Global};
@@ -22,8 +22,11 @@ use crate::proved::service_loop::audit::Audit;
 use crate::proved::service_loop::audit_log::AuditLog;
 use crate::proved::service_loop::connections::ConnectionTable;
 use crate::proved::service_loop::doors::{Accepted, Doors};
+use crate::proved::service_loop::feed::Feed;
+use crate::proved::service_loop::first_point::FirstPoint;
 use crate::proved::service_loop::gathering::{iterate_prefetched, Batch, Called};
 use crate::proved::service_loop::host_fault::HostFault;
+use crate::proved::service_loop::manner::Manner;
 use crate::proved::service_loop::persist::Persist;
 use crate::proved::service_loop::releasing::end_due;
 use crate::proved::service_loop::shared::SharedBuffers;
@@ -33,6 +36,7 @@ use crate::proved::service_loop::taking::{prefetch_takings, serve_takings};
 use crate::proved::service_loop::teller::Teller;
 use crate::proved::service_loop::terms::Terms;
 use crate::proved::service_loop::turns::iterate;
+use crate::proved::service_loop::watch_line::end_told;
 use crate::proved::service_loop::watching::{LoopNumbers, Watch};
 use crate::proved::service_watch::listeners::listening::Listeners;
 use crate::proved::service_watch::numbers::Tally;
@@ -64,6 +68,10 @@ const LAST_ROUNDS: u64 = 11;
 pub struct HostOptions {
     /// The world whose commands clients speak.
     pub kind: WorldKind,
+    /// Whether a client that takes a number is told a token.
+    pub tokens: bool,
+    /// Whether clients own their identities by secrets.
+    pub owners: bool,
     /// How many clients are served at once; others wait to be accepted.
     pub clients: usize,
     /// After how many seconds a client that says nothing is closed; never, where it is not given.
@@ -77,6 +85,14 @@ pub struct HostOptions {
 }
 
 impl HostOptions {
+    // How numbers are taken.
+    pub(crate) fn manner(&self) -> Manner {
+        Manner {
+            wide: self.kind.is_wide(),
+            tokens: self.tokens,
+        }
+    }
+
     // What a client is told that asks for the terms.
     fn terms(&self) -> Terms {
         Terms {
@@ -104,6 +120,8 @@ pub(crate) struct Hosting {
     connections: ConnectionTable,
     /// Those who wait for numbers.
     queue: TakeQueue,
+    /// The point before the first change of who holds numbers.
+    first: FirstPoint,
     start: Instant,
     /// The second since the start that is under way.
     second: u64,
@@ -147,7 +165,7 @@ pub(crate) struct Hosting {
 
 /// Serves clients of one service, each its own transcript, in one thread.
 ///
-/// Lines `listening ADDRESS:PORT`, `listening PATH` and `metrics ADDRESS:PORT` are written first, of what is listened on. Each turn takes what
+/// Lines `listening ADDRESS:PORT`, `listening PATH`, `admin PATH` and `metrics ADDRESS:PORT` are written first, of what is listened on. Each turn takes what
 /// clients have sent, keeps what the service tells of it, and only then sends replies (`iterate`); where the service prefetches its answers, what
 /// was read goes to the persister before (`iterate_prefetched`), which is called once a second too. It ends at the end of standard input where
 /// that is a pipe, or else never: then replies are sent, as far as clients take them within a second, and a line `served N` is written. Those who
@@ -179,11 +197,11 @@ where
     let mut hosting = Hosting::new(rt, alloc, options, listeners, persister.most_prefetched())?;
     hosting.tell_listening(output)?;
     hosting.tell_trouble(persister.trouble(), errors);
-    let wide = options.kind.is_wide();
+    let manner = options.manner();
     for _ in rt.forever() {
         hosting.go_round(
             rt,
-            wide,
+            manner,
             options.grace,
             service,
             persister,
@@ -234,10 +252,11 @@ fn enter_at<R: Net>(rt: &R, alloc: Global, listeners: Listeners) -> io::Result<E
     let Listeners {
         network,
         local,
+        admin,
         metrics,
     } = listeners;
     let poll = new_poll(rt, STOPPER)?;
-    let doors = Doors::new(&poll, network, local)?;
+    let doors = Doors::new(&poll, network, local, admin)?;
     let watch = watch_at(alloc, &poll, metrics)?;
     Ok(Entrance {
         poll,
@@ -250,13 +269,21 @@ fn enter_at<R: Net>(rt: &R, alloc: Global, listeners: Listeners) -> io::Result<E
 // Waits for the connections that others let in.
 fn enter_within<R: Net>(rt: &R) -> io::Result<Entrance> {
     let poll = Poll::new(rt)?;
-    let doors = Doors::new(&poll, None, None)?;
+    let doors = Doors::new(&poll, None, None, None)?;
     Ok(Entrance {
         poll,
         doors,
         watch: None,
         within: true,
     })
+}
+
+// What changes of who holds numbers: as the persister tells, where other servers share the service.
+fn changes_of<'a, D, K: Persist<D>>(service: &'a Attended<D>, persister: &'a K) -> &'a Feed {
+    match persister.changes() {
+        Some(changes) => changes,
+        None => &service.changes,
+    }
 }
 
 // What goes to the persister before a turn, where the service prefetches its answers.
@@ -330,6 +357,7 @@ impl Hosting {
             doors,
             connections: ConnectionTable::new(alloc, options.clients)?,
             queue: TakeQueue::new(alloc),
+            first: FirstPoint::at_start(rt),
             start: Instant::now(rt)?,
             second: 0,
             tick: 0,
@@ -384,7 +412,7 @@ impl Hosting {
     pub(crate) fn go_round<R: Clock, D: Service<R>, K: Persist<D>, L: AuditLog, E: Write>(
         &mut self,
         rt: &R,
-        wide: bool,
+        manner: Manner,
         grace: Option<u64>,
         service: &mut Attended<D>,
         persister: &mut K,
@@ -396,7 +424,7 @@ impl Hosting {
         self.accept_all(&mut service.audit)?;
         self.tell_full(errors);
         self.tell_tick(&mut service.service, persister)?;
-        self.serve_all(rt, wide, grace, service, persister, shared)?;
+        self.serve_all(rt, manner, grace, service, persister, shared)?;
         self.tell_trouble(persister.trouble(), errors);
         self.tell_room(persister.lasting_tenths(), errors);
         self.tell_lost(errors);
@@ -578,21 +606,21 @@ impl Hosting {
     fn serve_all<R, D: Service<R>, K: Persist<D>>(
         &mut self,
         rt: &R,
-        wide: bool,
+        manner: Manner,
         grace: Option<u64>,
         service: &mut Attended<D>,
         persister: &mut K,
         shared: &mut SharedBuffers<Global>,
     ) -> Result<(), HostFault<K::Fault>> {
-        self.end_stays(rt, wide, grace, service, persister, shared)?;
-        self.serve(rt, wide, service, persister, shared)
+        self.end_stays(rt, manner, grace, service, persister, shared)?;
+        self.serve(rt, manner, service, persister, shared)
     }
 
     // Gives each connection that is due its turn.
     fn serve<R, D: Service<R>, K: Persist<D>>(
         &mut self,
         rt: &R,
-        wide: bool,
+        manner: Manner,
         service: &mut Attended<D>,
         persister: &mut K,
         shared: &mut SharedBuffers<Global>,
@@ -600,9 +628,9 @@ impl Hosting {
         match self.iterate_all(rt, service, persister, shared) {
             Ok(called) => {
                 self.note_lost(called);
-                self.take_numbers(rt, wide, service, persister, shared, called)?;
-                self.answer(&service.service, persister, shared, called);
-                self.settle(called.count())
+                self.take_numbers(rt, manner, service, persister, shared, called)?;
+                self.answer(service, persister, shared, called);
+                self.settle(called.count(), changes_of(service, persister))
             }
             Err(fault) => Err(HostFault::Persist(fault)),
         }
@@ -640,7 +668,7 @@ impl Hosting {
     fn take_numbers<R, D: Service<R>, K: Persist<D>>(
         &mut self,
         rt: &R,
-        wide: bool,
+        manner: Manner,
         service: &mut Attended<D>,
         persister: &mut K,
         shared: &mut SharedBuffers<Global>,
@@ -656,7 +684,7 @@ impl Hosting {
         if self.queue.called().is_empty() {
             return Ok(());
         }
-        match self.take_numbers_of(rt, wide, service, persister, shared) {
+        match self.take_numbers_of(rt, manner, service, persister, shared) {
             Ok(taken) => {
                 self.note_lost(taken);
                 Ok(())
@@ -687,7 +715,7 @@ impl Hosting {
     fn take_numbers_of<R, D: Service<R>, K: Persist<D>>(
         &mut self,
         rt: &R,
-        wide: bool,
+        manner: Manner,
         service: &mut Attended<D>,
         persister: &mut K,
         shared: &mut SharedBuffers<Global>,
@@ -698,20 +726,20 @@ impl Hosting {
         match &mut self.batch {
             None => {
                 serve_takings(
-                    rt, service, persister, shared, seats, numbers, called, wide, false,
+                    rt, service, persister, shared, seats, numbers, called, manner, false,
                 )?;
                 Ok(Called::Served(called.len()))
             }
             Some(batch) => prefetch_takings(
-                rt, service, persister, batch, shared, seats, numbers, called, wide,
+                rt, service, persister, batch, shared, seats, numbers, called, manner,
             ),
         }
     }
 
-    // Answers who asks who holds numbers, or the terms.
+    // Answers who asks who holds numbers, what changes of that, or the terms.
     fn answer<D, K: Persist<D>>(
         &mut self,
-        service: &D,
+        service: &Attended<D>,
         persister: &K,
         shared: &mut SharedBuffers<Global>,
         called: Called,
@@ -723,14 +751,26 @@ impl Hosting {
             let terms = self.options.terms();
             let ConnectionTable { seats, ready, .. } = &mut self.connections;
             let few = count.min(ready.len());
-            answer_queries(service, persister, terms, shared, seats, &ready[..few]);
+            let changes = changes_of(service, persister);
+            answer_queries(
+                &service.service,
+                persister,
+                terms,
+                changes,
+                &self.first,
+                shared,
+                seats,
+                &ready[..few],
+            );
         }
     }
 
     // After the turn of so many: where one has left, another may be accepted again.
-    fn settle<F>(&mut self, called: usize) -> Result<(), HostFault<F>> {
+    fn settle<F>(&mut self, called: usize, changes: &Feed) -> Result<(), HostFault<F>> {
         let before = self.connections.open;
-        self.connections.settle(called, self.tick, &self.queue)?;
+        let end = end_told(changes, &self.first);
+        self.connections
+            .settle(called, self.tick, &self.queue, end)?;
         self.queue.clear_called();
         self.full = self.full && before <= self.connections.open;
         Ok(())
@@ -740,7 +780,7 @@ impl Hosting {
     fn end_stays<R, D: Service<R>, K: Persist<D>>(
         &mut self,
         rt: &R,
-        wide: bool,
+        manner: Manner,
         grace: Option<u64>,
         service: &mut Attended<D>,
         persister: &mut K,
@@ -749,14 +789,14 @@ impl Hosting {
         let ended = self.has_ended();
         self.connections.note_ended(service, self.lost, self.tick);
         self.connections.check_keepers(persister, &service.stays)?;
-        self.end_if_due(rt, wide, grace, service, persister, shared, ended)
+        self.end_if_due(rt, manner, grace, service, persister, shared, ended)
     }
 
     // Ends the stays that are due, where a second has passed or connections have ended, and any are to end.
     fn end_if_due<R, D: Service<R>, K: Persist<D>>(
         &mut self,
         rt: &R,
-        wide: bool,
+        manner: Manner,
         grace: Option<u64>,
         service: &mut Attended<D>,
         persister: &mut K,
@@ -779,7 +819,7 @@ impl Hosting {
             service,
             persister,
             &mut shared.view,
-            wide,
+            manner.wide,
             grace,
             self.tick,
         )
@@ -818,10 +858,13 @@ impl Hosting {
     /// `AllocError`: an allocation failed. The stream is closed.
     pub(crate) fn welcome(
         &mut self,
-        stream: Socket,
+        mut stream: Socket,
         peer: Option<SocketAddr>,
         audit: &mut Audit,
     ) -> Result<(), AllocError> {
+        if self.options.owners {
+            stream.own(self.alloc);
+        }
         let kind = self.options.kind;
         let admitted = self
             .connections
@@ -928,6 +971,9 @@ impl Hosting {
         }
         if let Some(path) = self.doors.path() {
             put_line(format!(in self.alloc; "listening {path}\n"), output)?;
+        }
+        if let Some(path) = self.doors.admin_path() {
+            put_line(format!(in self.alloc; "admin {path}\n"), output)?;
         }
         if let Some(watch) = &self.watch {
             let address = watch.address()?;

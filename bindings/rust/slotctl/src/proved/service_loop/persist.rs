@@ -1,7 +1,8 @@
-// Erased by bindings/rust/erase from crates/service_loop/src/persist.rt, sha256 4230d0c48aa64f137170318706dbc604b83cb5f885343c075d73e0e09bb8eeef.
+// Erased by bindings/rust/erase from crates/service_loop/src/persist.rt, sha256 5ea70dcf8694ddeec25708b30c3b7e1d14bd1b99bf9f5bc3af23e4ea13cde475.
 //! What is kept of a turn before its replies go out.
 
 use crate::kit::alloc::Allocator;
+use crate::proved::service_loop::feed::Feed;
 use crate::proved::service_watch::numbers::Tally;
 use crate::proved::text_lines::held::query::HeldQuery;
 use crate::proved::text_lines::replies::Replies;
@@ -60,6 +61,11 @@ pub trait Persist<D>: Sized {
 
     /// Whether this server may still answer those who keep stays. Where it may not they are closed, and nothing is sent to them.
     fn may_answer_stays(&self) -> bool;
+
+    /// What changes of who holds numbers, where other servers share the service; `None` where none does: then the loop notes it.
+    fn changes(&self) -> Option<&Feed> {
+        None
+    }
 
     /// What is amiss and does not end the server, for people; `None` where nothing is.
     fn trouble(&self) -> Option<&'static str>;

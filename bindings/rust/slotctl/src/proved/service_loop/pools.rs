@@ -1,4 +1,4 @@
-// Erased by bindings/rust/erase from crates/service_loop/src/pools.rt, sha256 8f72260d3d97c9c948a55cae7bbcb08e276f5e52d724064d4941a0e1bcf5b32e.
+// Erased by bindings/rust/erase from crates/service_loop/src/pools.rt, sha256 e37bfc801eb28b274c6124afccf67fb2a57b93c4c182f3471fc2684ed8c37f63.
 //! A server of several pools, in one thread.
 
 use crate::kit::alloc::{AllocError, Global};
@@ -10,11 +10,11 @@ use crate::kit::sync::Wait;
 use crate::kit::time::{Duration, Instant};
 use crate::kit::String;
 use crate::kit::Vec;
-use crate::proved::model_asked::kind::WorldKind;
 use crate::proved::service_loop::attended::Attended;
 use crate::proved::service_loop::audit_log::AuditLog;
 use crate::proved::service_loop::host_fault::HostFault;
 use crate::proved::service_loop::hosting::{put_line, HostOptions, Hosted, Hosting, FULL};
+use crate::proved::service_loop::manner::Manner;
 use crate::proved::service_loop::persist::Persist;
 use crate::proved::service_loop::porch::{Arrival, Porch};
 use crate::proved::service_loop::shared::SharedBuffers;
@@ -38,10 +38,9 @@ pub struct HostedPool<D, K, L> {
     pub service: Attended<D>,
     /// What keeps what the service tells.
     pub persister: K,
-    /// The world of its hall.
-    pub kind: WorldKind,
     /// How many seconds after its connection has ended a stay ends; never, where it is not given.
     pub grace: Option<u64>,
+    manner: Manner,
     log: L,
     hosting: Hosting,
     /// Whether something is to be done for it.
@@ -70,7 +69,7 @@ impl<D, K: Persist<D>, L: AuditLog> HostedPool<D, K, L> {
             name,
             service,
             persister,
-            kind: options.kind,
+            manner: options.manner(),
             grace: options.grace,
             log,
             hosting,
@@ -108,10 +107,9 @@ impl<D, K: Persist<D>, L: AuditLog> HostedPool<D, K, L> {
         if !self.due {
             return Ok(());
         }
-        let wide = self.kind.is_wide();
         self.hosting.go_round(
             rt,
-            wide,
+            self.manner,
             self.grace,
             &mut self.service,
             &mut self.persister,
@@ -442,6 +440,9 @@ impl PoolServer {
         }
         if let Some(path) = self.porch.doors().path() {
             put_line(format!(in self.alloc; "listening {path}\n"), output)?;
+        }
+        if let Some(path) = self.porch.doors().admin_path() {
+            put_line(format!(in self.alloc; "admin {path}\n"), output)?;
         }
         if let Some(address) = self.porch.metrics_address()? {
             put_line(format!(in self.alloc; "metrics {address}\n"), output)?;

@@ -1,4 +1,4 @@
-// Erased by bindings/rust/erase from crates/service_loop/src/porch.rt, sha256 8b9410347bafe91bba6079eed116c3e57b59d35597c6e32e10509a5685e4e42f.
+// Erased by bindings/rust/erase from crates/service_loop/src/porch.rt, sha256 2f1f64439ad5b5cd571ea0dff49bd8d0913f07d057f396a7305dff06530bc792.
 //! Where those come who choose a pool.
 
 use crate::kit::alloc::{AllocError, Global};
@@ -112,10 +112,11 @@ impl Porch {
         let Listeners {
             network,
             local,
+            admin,
             metrics,
         } = listeners;
         let poll = new_poll(rt, STOPPER)?;
-        let doors = Doors::new(&poll, network, local)?;
+        let doors = Doors::new(&poll, network, local, admin)?;
         let scrapers = match metrics {
             Some(listener) => Some(Scrapers::new(alloc, &poll, listener)?),
             None => None,

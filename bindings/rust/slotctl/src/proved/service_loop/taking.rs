@@ -1,6 +1,6 @@
-// Erased by bindings/rust/erase from crates/service_loop/src/taking.rt, sha256 5772e1bcffaea70939e8c3f0f7532fc8639fb2371122feb99c83869b5bbb3b5c.
+// Erased by bindings/rust/erase from crates/service_loop/src/taking.rt, sha256 4eaeb7068ceaec9fde422dcc5a775a599a07dab789f230affc51cbd54af0d1f9.
 //! Lines that take a number, after a turn of the loop: `take ID` is `enter ID`, and then in the wide world one `seek ID`, elsewhere `probe ID` as often
-//! as it takes.
+//! as it takes. Where tokens are given, `put ID 0` asks for one behind it.
 
 use crate::kit::alloc::{AllocError, Allocator};
 use crate::kit::Vec;
@@ -13,12 +13,14 @@ use crate::proved::service_loop::audit::Asker;
 use crate::proved::service_loop::connection::{Connection, ConnectionStage};
 use crate::proved::service_loop::gathering::{prefetch, Batch, Called};
 use crate::proved::service_loop::losing::note_lost;
+use crate::proved::service_loop::manner::Manner;
 use crate::proved::service_loop::persist::{Persist, Prefetch};
 use crate::proved::service_loop::searching::{most_said, searching};
 use crate::proved::service_loop::shared::SharedBuffers;
 use crate::proved::service_loop::stream::Stream;
 use crate::proved::service_loop::turns::{number_at, send_replies};
 use crate::proved::text_lines::events::print_event;
+use crate::proved::text_lines::print::{print_reply, print_words, put_number};
 use crate::proved::text_lines::replies::Replies;
 use crate::proved::text_player::service::Service;
 
@@ -31,6 +33,11 @@ const LINE_ROOM: usize = 27;
 // Whether a number is searched for behind this reply: `enter` was accepted, or a `probe` missed.
 fn wants_search(reply: &Reply<()>) -> bool {
     matches!(reply, Reply::Ok | Reply::Missed)
+}
+
+// Whether a number was taken.
+fn is_got(reply: &Reply<()>) -> bool {
+    matches!(reply, Reply::Got(_))
 }
 
 /// Whether this refuses a number since as many compete as may.
@@ -92,6 +99,71 @@ pub fn say_taking<R, D: Service<R>>(
     took.answer
 }
 
+// Whether a token is asked for.
+fn asks_token(tokens: bool, ahead: bool, got: bool) -> bool {
+    tokens && (ahead || got)
+}
+
+// Asks for a token of an identity, or not. Returns what is replied to it, if it got a number.
+fn ask_token<R, D: Service<R>>(
+    rt: &R,
+    service: &mut D,
+    identity: u64,
+    asks: bool,
+    got: bool,
+) -> Option<Reply<()>> {
+    if !asks {
+        return None;
+    }
+    let mut view = View::new();
+    let reply = service.apply(rt, Event::Put(identity, 0), &mut view);
+    if got {
+        Some(reply)
+    } else {
+        None
+    }
+}
+
+/// What was said to a client that takes a number.
+#[derive(Clone, Copy, Debug)]
+pub struct Taken {
+    /// The reply that tells the number, or why there is none.
+    pub answer: Reply<()>,
+    /// The reply that tells the token, if one was asked for behind a number.
+    pub token: Option<Reply<()>>,
+}
+
+/// Takes a number for an identity (`say_taking`), and then asks for a token, if tokens are given: `put` of any value. It is asked for if a number was
+/// got, and always where the answers were prefetched.
+pub fn take_with_token<R, D: Service<R>>(
+    rt: &R,
+    service: &mut D,
+    view: &mut View,
+    identity: u64,
+    manner: Manner,
+    ahead: bool,
+) -> Taken {
+    let answer = say_taking(rt, service, view, identity, manner.wide, ahead);
+    let got = is_got(&answer);
+    let asks = asks_token(manner.tokens, ahead, got);
+    let token = ask_token(rt, service, identity, asks, got);
+    Taken { answer, token }
+}
+
+/// Appends the line that a client is answered that takes a number: with the token behind it, or the refusal of that.
+pub(crate) fn print_taken<A: Allocator>(taken: Taken, view: &View, out: &mut Replies<A>) {
+    match taken.token {
+        Some(Reply::Value(token)) => {
+            print_words(taken.answer, view, out);
+            out.put(b" ");
+            put_number(token, out);
+            out.put(b"\n");
+        }
+        Some(Reply::Refused(why)) => print_reply(Reply::Refused(why), view, out),
+        _ => print_reply(taken.answer, view, out),
+    }
+}
+
 // The connection of a seat takes a number, where there is one that rests. It is the one of this number.
 fn take_number_at<R, D: Service<R>, S: Stream, A: Allocator, B: Allocator>(
     rt: &R,
@@ -100,7 +172,7 @@ fn take_number_at<R, D: Service<R>, S: Stream, A: Allocator, B: Allocator>(
     seats: &mut [Option<Connection<S, A>>],
     number: u64,
     key: usize,
-    wide: bool,
+    manner: Manner,
     ahead: bool,
 ) {
     if key < seats.len() {
@@ -108,7 +180,7 @@ fn take_number_at<R, D: Service<R>, S: Stream, A: Allocator, B: Allocator>(
             if let ConnectionStage::Idle = connection.stage {
                 service.listen_to(number);
                 service.audit.listen_to(Asker::Taker { answered: false });
-                connection.take_number(rt, service, shared, wide, ahead);
+                connection.take_number(rt, service, shared, manner, ahead);
                 service.audit.listen_to(Asker::Client);
             }
         }
@@ -129,7 +201,7 @@ fn take_numbers<R, D: Service<R>, K: Persist<D>, S: Stream, A: Allocator, B: All
     seats: &mut [Option<Connection<S, A>>],
     numbers: &[u64],
     called: &[usize],
-    wide: bool,
+    manner: Manner,
     ahead: bool,
 ) {
     for key in called {
@@ -143,7 +215,7 @@ fn take_numbers<R, D: Service<R>, K: Persist<D>, S: Stream, A: Allocator, B: All
             seats,
             number_at(numbers, *key),
             *key,
-            wide,
+            manner,
             ahead,
         );
     }
@@ -164,11 +236,11 @@ pub fn serve_takings<R, D: Service<R>, K: Persist<D>, S: Stream, A: Allocator, B
     seats: &mut [Option<Connection<S, A>>],
     numbers: &[u64],
     called: &[usize],
-    wide: bool,
+    manner: Manner,
     ahead: bool,
 ) -> Result<(), K::Fault> {
     take_numbers(
-        rt, service, persister, shared, seats, numbers, called, wide, ahead,
+        rt, service, persister, shared, seats, numbers, called, manner, ahead,
     );
     persister.persist(&mut service.service)?;
     send_replies(seats, called);
@@ -189,8 +261,8 @@ fn add_event<B: Allocator>(
     Ok(())
 }
 
-// The lines that take a number for an identity are added to others.
-fn add_taking<B: Allocator>(
+// The lines that search for a number of an identity are added to others.
+fn add_searches<B: Allocator>(
     identity: u64,
     wide: bool,
     words: &mut Replies<B>,
@@ -202,6 +274,20 @@ fn add_taking<B: Allocator>(
     while said < most {
         add_event(searching(wide, identity), words, lines)?;
         said += 1;
+    }
+    Ok(())
+}
+
+// The lines that take a number for an identity are added to others.
+fn add_taking<B: Allocator>(
+    identity: u64,
+    manner: Manner,
+    words: &mut Replies<B>,
+    lines: &mut Vec<u8, B>,
+) -> Result<(), AllocError> {
+    add_searches(identity, manner.wide, words, lines)?;
+    if manner.tokens {
+        add_event(Event::Put(identity, 0), words, lines)?;
     }
     Ok(())
 }
@@ -220,13 +306,13 @@ fn taking_at<S: Stream, A: Allocator>(
 }
 
 // The most bytes of the lines that take one number.
-fn taking_room(wide: bool) -> usize {
-    LINE_ROOM * (most_said(wide) + 1)
+fn taking_room(manner: Manner) -> usize {
+    LINE_ROOM * (most_said(manner.wide) + 2)
 }
 
 // Whether there is room in a batch for the lines that take one number more. In an empty one there is.
-fn has_room<B: Allocator>(batch: &Batch<B>, wide: bool) -> bool {
-    batch.lines.is_empty() || batch.lines.len() <= batch.most.saturating_sub(taking_room(wide))
+fn has_room<B: Allocator>(batch: &Batch<B>, manner: Manner) -> bool {
+    batch.lines.is_empty() || batch.lines.len() <= batch.most.saturating_sub(taking_room(manner))
 }
 
 // The lines of the connection of a seat are added to the batch, where it takes a number. Says whether there was room for them, and memory.
@@ -235,16 +321,16 @@ fn add_taking_at<S: Stream, A: Allocator, B: Allocator>(
     words: &mut Replies<B>,
     seats: &[Option<Connection<S, A>>],
     key: usize,
-    wide: bool,
+    manner: Manner,
 ) -> bool {
     let Some(identity) = taking_at(seats, key) else {
         return true;
     };
-    if !has_room(batch, wide) {
+    if !has_room(batch, manner) {
         return false;
     }
     let before = batch.lines.len();
-    if add_taking(identity, wide, words, &mut batch.lines).is_err() {
+    if add_taking(identity, manner, words, &mut batch.lines).is_err() {
         batch.lines.truncate(before);
         return false;
     }
@@ -257,12 +343,12 @@ fn gather_takings<S: Stream, A: Allocator, B: Allocator>(
     words: &mut Replies<B>,
     seats: &[Option<Connection<S, A>>],
     called: &[usize],
-    wide: bool,
+    manner: Manner,
 ) -> usize {
     batch.lines.clear();
     batch.holds = false;
     let mut seen = 0;
-    while seen < called.len() && add_taking_at(batch, words, seats, called[seen], wide) {
+    while seen < called.len() && add_taking_at(batch, words, seats, called[seen], manner) {
         seen += 1;
     }
     seen
@@ -305,14 +391,14 @@ pub fn prefetch_takings<R, D: Service<R>, K: Persist<D>, S: Stream, A: Allocator
     seats: &mut [Option<Connection<S, A>>],
     numbers: &[u64],
     called: &[usize],
-    wide: bool,
+    manner: Manner,
 ) -> Result<Called, K::Fault> {
-    let seen = gather_takings(batch, &mut shared.replies, seats, called, wide);
+    let seen = gather_takings(batch, &mut shared.replies, seats, called, manner);
     let few = &called[..seen];
     match prefetch(&mut service.service, persister, batch)? {
         Prefetch::Known => {
             serve_takings(
-                rt, service, persister, shared, seats, numbers, few, wide, true,
+                rt, service, persister, shared, seats, numbers, few, manner, true,
             )?;
             Ok(Called::Served(seen))
         }

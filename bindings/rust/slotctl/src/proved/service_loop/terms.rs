@@ -1,8 +1,11 @@
-// Erased by bindings/rust/erase from crates/service_loop/src/terms.rt, sha256 9ac4ac1289e7f4eec81753a816b43320ab72a24a449432f769781e95b821c1a2.
+// Erased by bindings/rust/erase from crates/service_loop/src/terms.rt, sha256 ff1e3d2785326e5cfbe867e0008aaaaa56e731d434748b7193d815f36430642a.
 //! What a server says of the ends of stays, and the lines that it answers by itself without a command.
 
 use crate::kit::alloc::Allocator;
+use crate::proved::service_loop::feed::Feed;
+use crate::proved::service_loop::first_point::FirstPoint;
 use crate::proved::service_loop::persist::Persist;
+use crate::proved::service_loop::watch_line::{put_changes, watch_query, WatchQuery};
 use crate::proved::text_lines::held::query::{held_query, HeldQuery};
 use crate::proved::text_lines::print::put_number;
 use crate::proved::text_lines::replies::Replies;
@@ -22,6 +25,8 @@ pub struct Terms {
 pub enum Query {
     /// Who holds numbers: `held`, and `held ID`.
     Holders(HeldQuery),
+    /// What changes of that: `watch`, and `watch P`.
+    Changes(WatchQuery),
     /// The terms of the server: `terms`.
     Terms,
 }
@@ -33,6 +38,14 @@ pub fn query_of(line: &[u8]) -> Option<Query> {
     }
     match held_query(line) {
         Some(query) => Some(Query::Holders(query)),
+        None => changes_if(watch_query(line)),
+    }
+}
+
+// Asks for changes, where a line does.
+fn changes_if(query: Option<WatchQuery>) -> Option<Query> {
+    match query {
+        Some(query) => Some(Query::Changes(query)),
         None => None,
     }
 }
@@ -63,16 +76,19 @@ pub fn put_terms<B: Allocator>(terms: Terms, out: &mut Replies<B>) {
     out.put(b"\n");
 }
 
-/// Appends the answer to a query: the terms, or who holds numbers, as the persister tells.
+/// Appends the answer to a query: the terms, or who holds numbers, as the persister tells, or what changed of that.
 pub fn put_answer<D, K: Persist<D>, B: Allocator>(
     service: &D,
     persister: &K,
     terms: Terms,
+    feed: &Feed,
+    first: &FirstPoint,
     query: Query,
     out: &mut Replies<B>,
 ) {
     match query {
         Query::Holders(query) => persister.put_held(service, query, out),
+        Query::Changes(query) => put_changes(feed, first, query, out),
         Query::Terms => put_terms(terms, out),
     }
 }

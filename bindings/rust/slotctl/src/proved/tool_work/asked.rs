@@ -1,4 +1,4 @@
-// Erased by bindings/rust/erase from crates/tool_work/src/asked.rt, sha256 bf67c317417ed7a922afe46db4e52f6c7a894cd893ed601eea9aaf4b18fa2140.
+// Erased by bindings/rust/erase from crates/tool_work/src/asked.rt, sha256 877c5938931c2b874389076af1ba08a13d7943db0d2649b33b739807c753a1cf.
 //! What the program can be asked for.
 
 use crate::kit::net::IpAddr;
@@ -235,6 +235,10 @@ pub struct Endpoints<'a> {
     pub unix: Option<&'a str>,
     /// The bits of the mode of that socket, at most 0o777.
     pub mode: u64,
+    /// The path of the socket for administrators, where one is named.
+    pub admin: Option<&'a str>,
+    /// Whether clients own their identities by secrets.
+    pub owners: bool,
     /// The address of the port for those who watch.
     pub metrics_address: IpAddr,
     /// The port for those who watch, where one is named; with 0 any that is free.
@@ -248,6 +252,8 @@ impl<'a> Endpoints<'a> {
         port: Option<u16>,
         unix: Option<&'a str>,
         mode: u64,
+        admin: Option<&'a str>,
+        owners: bool,
         metrics_address: IpAddr,
         metrics: Option<u16>,
     ) -> Option<Endpoints<'a>> {
@@ -259,6 +265,8 @@ impl<'a> Endpoints<'a> {
             port,
             unix,
             mode,
+            admin,
+            owners,
             metrics_address,
             metrics,
         })
@@ -272,6 +280,8 @@ pub struct Admissions {
     pub naming: bool,
     /// Whether they may widen the pool.
     pub widening: bool,
+    /// Whether they are given tokens with their numbers.
+    pub tokens: bool,
 }
 
 /// The hall that is hosted.

@@ -1,4 +1,4 @@
-// Erased by bindings/rust/erase from crates/tool_work/src/command_line.rt, sha256 7dd2937d6ffbbf2e428024515d10afb19ca5cb51372ddde3ecee3e925646b70a.
+// Erased by bindings/rust/erase from crates/tool_work/src/command_line.rt, sha256 32c9d1be69cf41d51f17e433d5fd49b647978ede8c04c2a052468c256284aca9.
 //! The command line of the program, for `clap`.
 
 use crate::kit::alloc::{AllocError, Global};
@@ -271,9 +271,14 @@ const HOST: Manual = Manual {
             help: "widen: clients may widen the pool too; without this widen is refused 14",
         },
         Choice {
+            name: "tokens",
+            takes: Takes::Nothing,
+            help: "take is answered got NUMBER TOKEN: a token is above all that the number ever had; put ID 0 is answered value TOKEN, with the next one",
+        },
+        Choice {
             name: "address",
             takes: Takes::TextOr("ADDRESS", "127.0.0.1"),
-            help: "the address; whoever reaches another than this may say everything: no encryption, no authentication",
+            help: "the address; whoever reaches another than this may say everything, unless identities have secrets (--owners); nothing is encrypted",
         },
         Choice {
             name: "port",
@@ -289,6 +294,16 @@ const HOST: Manual = Manual {
             name: "mode",
             takes: Takes::TextOr("BITS", "660"),
             help: "the mode of that socket, in octal digits; whoever may write may connect",
+        },
+        Choice {
+            name: "owners",
+            takes: Takes::Nothing,
+            help: "a secret of 22 to 64 letters, digits, - and _ may stand behind an identity, as take ID SECRET: then whoever lacks it cannot speak for that stay",
+        },
+        Choice {
+            name: "admin",
+            takes: Takes::Text("PATH"),
+            help: "one more socket of the file system, of mode 600, at which with --owners every identity may be named",
         },
         Choice {
             name: "metrics",

@@ -1,4 +1,4 @@
-// Erased by bindings/rust/erase from crates/tool_work/src/words.rt, sha256 b90247bcae9d3e0e47be51cb6dc7146e6e460f80e1d28a4971bb093574460f5e.
+// Erased by bindings/rust/erase from crates/tool_work/src/words.rt, sha256 d8b2e7c5ad91af6a0bba209d162bb5a443f997cdd15ebc95c6403455483f44f4.
 //! What the words of a command line ask for.
 
 use crate::kit::alloc::Global;
@@ -242,14 +242,17 @@ fn hall_given(matches: &ArgMatches<'_>) -> Option<Config> {
 // What the options of `host` have clients ask for, where they say so.
 fn admissions_given(matches: &ArgMatches<'_>) -> Option<Admissions> {
     let naming = text_given(matches, "world").is_some();
+    let tokens = flag_given(matches, "tokens");
     match text_given(matches, "admit") {
         None => Some(Admissions {
             naming,
             widening: false,
+            tokens,
         }),
         Some("widen") => Some(Admissions {
             naming,
             widening: true,
+            tokens,
         }),
         Some(_) => None,
     }
@@ -261,9 +264,20 @@ fn endpoints_given<'a>(matches: &ArgMatches<'a>) -> Option<Endpoints<'a>> {
     let port = port_given(matches, "port");
     let unix = text_given(matches, "unix");
     let mode = mode_given(matches)?;
+    let admin = text_given(matches, "admin");
+    let owners = flag_given(matches, "owners");
     let metrics_address = address_given(matches, "metrics-address")?;
     let metrics = port_given(matches, "metrics");
-    Endpoints::new(address, port, unix, mode, metrics_address, metrics)
+    Endpoints::new(
+        address,
+        port,
+        unix,
+        mode,
+        admin,
+        owners,
+        metrics_address,
+        metrics,
+    )
 }
 
 // What the options of `host` give, where they give something.

@@ -1,10 +1,11 @@
-// Erased by bindings/rust/erase from crates/service_log/src/etcd/answer.rt, sha256 bf916b28cc88808b0c1f337ee81c8d8e78ea2a1914bb1ba5217cf1e6c7d4f2a1.
+// Erased by bindings/rust/erase from crates/service_log/src/etcd/answer.rt, sha256 5ee8d4dc5bc05af088f628a9d2b3603dfc204c0e829e3d8d10a2a97ff87c6bd4.
 //! The answers of etcd.
 
 use crate::kit::alloc::Global;
 use crate::kit::base64::engine::general_purpose::STANDARD;
 use crate::kit::base64::DecodeAllocError;
 use crate::kit::json::{Error, Scratch, Value};
+use crate::kit::String;
 use crate::kit::Vec;
 use crate::proved::service_log::etcd::key::{hint_key64, key64};
 use crate::proved::service_log::etcd::request::forget_text;
@@ -165,25 +166,81 @@ pub fn read_get(
     read_all(alloc, &answer, most, prefix, place)
 }
 
+/// What an append was told.
+pub enum Appended {
+    /// Its conditions held. These are the entries at its places then, its own among them if it was written.
+    Found(Vec<Vec<u8>>),
+    /// They did not hold. The fence was changed last at this revision, in digits.
+    Refused(String),
+}
+
+// Returns what a transaction got by the request of this index, or `None` if the JSON is no such answer.
+fn got_said<'a, 'v>(answer: &'a Value<'v>, index: usize) -> Option<&'a Value<'v>> {
+    answer.get("responses")?.at(index)?.get("response_range")
+}
+
+// Returns the revision at which the first key of an answer was changed last, in digits, or `None` if there is none.
+fn revision_of_first<'v>(got: &Value<'v>) -> Option<&'v str> {
+    got.get("kvs")?.at(0)?.get("mod_revision")?.as_str()
+}
+
+// Returns the revision of the fence as an append was told. A fence that was never changed has none: it is 0.
+fn fence_said(alloc: Global, answer: &Value<'_>) -> Result<String, StoreFault> {
+    let Some(got) = got_said(answer, 0) else {
+        return Err(StoreFault::Wrong);
+    };
+    let revision = revision_of_first(got).unwrap_or("0");
+    match String::from_str(alloc, revision) {
+        Ok(revision) => Ok(revision),
+        Err(_) => Err(StoreFault::Memory),
+    }
+}
+
+/// Reads the body of an answer to a request that appends at one of the places from `place` on, `most` of them. Not proved:
+/// which revision the fence has. Nothing is written if it is another one.
+///
+/// # Errors
+///
+/// - `Memory`: an allocation failed.
+/// - `Wrong`: the body is no such answer.
+pub fn read_append(
+    alloc: Global,
+    body: &[u8],
+    most: usize,
+    prefix: &str,
+    place: u64,
+) -> Result<Appended, StoreFault> {
+    let mut scratch = Scratch::new(alloc);
+    let answer = parsed(alloc, body, &mut scratch)?;
+    match put_said(&answer) {
+        Some(true) => match got_said(&answer, 1) {
+            Some(got) => Ok(Appended::Found(read_all(alloc, got, most, prefix, place)?)),
+            None => Err(StoreFault::Wrong),
+        },
+        Some(false) => Ok(Appended::Refused(fence_said(alloc, &answer)?)),
+        None => Err(StoreFault::Wrong),
+    }
+}
+
+// Whether bytes are digits.
+fn are_digits(bytes: &[u8]) -> bool {
+    bytes.iter().all(|byte| byte.is_ascii_digit())
+}
+
 // Returns the number that 16 digits say, or `None` of other bytes.
 fn place_of(digits: &[u8]) -> Option<u64> {
-    if digits.len() != 16 {
+    if digits.len() != 16 || !are_digits(digits) {
         return None;
     }
     let mut place = 0u64;
     for digit in digits {
-        if !digit.is_ascii_digit() {
-            return None;
-        }
-        place = place
-            .wrapping_mul(10)
-            .wrapping_add((*digit).wrapping_sub(b'0') as u64);
+        place = place * 10 + u64::from(*digit - b'0');
     }
     Some(place)
 }
 
 /// Reads the body of an answer to a request that gets the place that is noted under a prefix. Returns `None` if no place
-/// is noted. Not proved: which place it returns. It is a hint alone.
+/// is noted, or what is noted is none. It is a hint alone.
 ///
 /// # Errors
 ///
@@ -216,6 +273,12 @@ fn first_value<'v>(answer: &Value<'v>) -> Option<&'v str> {
     answer.get("kvs")?.at(0)?.get("value")?.as_str()
 }
 
+// The same, where the inner `None` is an answer with no entry, and the outer one is JSON that is no answer.
+fn first_said<'v>(answer: &Value<'v>) -> Option<Option<&'v str>> {
+    answer.get("header")?;
+    Some(first_value(answer))
+}
+
 // Returns what two places in 16 digits each note, or `None` of other bytes.
 fn gone_of(digits: &[u8]) -> Option<Gone> {
     let (below, deleted) = digits.split_at_checked(16)?;
@@ -225,8 +288,20 @@ fn gone_of(digits: &[u8]) -> Option<Gone> {
     })
 }
 
+// Returns what an answer says of entries that were given up.
+fn gone_said(alloc: Global, answer: &Value<'_>) -> Result<Option<Gone>, StoreFault> {
+    match first_said(answer) {
+        Some(Some(text)) => match gone_of(&decoded(alloc, text)?) {
+            Some(gone) => Ok(Some(gone)),
+            None => Err(StoreFault::Wrong),
+        },
+        Some(None) => Ok(None),
+        None => Err(StoreFault::Wrong),
+    }
+}
+
 /// Reads the body of an answer to a request that gets what was noted of entries that were given up. Returns `None` if
-/// nothing was noted. Not proved: which places it returns. No entry hangs on them: a put compares the keys themselves.
+/// nothing was noted. No entry hangs on it: a put compares the keys themselves.
 ///
 /// # Errors
 ///
@@ -235,16 +310,7 @@ fn gone_of(digits: &[u8]) -> Option<Gone> {
 pub fn read_gone(alloc: Global, body: &[u8]) -> Result<Option<Gone>, StoreFault> {
     let mut scratch = Scratch::new(alloc);
     let answer = parsed(alloc, body, &mut scratch)?;
-    if answer.get("header").is_none() {
-        return Err(StoreFault::Wrong);
-    }
-    let Some(text) = first_value(&answer) else {
-        return Ok(None);
-    };
-    match gone_of(&decoded(alloc, text)?) {
-        Some(gone) => Ok(Some(gone)),
-        None => Err(StoreFault::Wrong),
-    }
+    gone_said(alloc, &answer)
 }
 
 // Returns the revision of the store at which it answered, in digits, or `None` if the JSON is no answer.

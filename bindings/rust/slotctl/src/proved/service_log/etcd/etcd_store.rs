@@ -1,4 +1,4 @@
-// Erased by bindings/rust/erase from crates/service_log/src/etcd/etcd_store.rt, sha256 811d457fc9c8f5a99a21e7f5da90564f51bf923294e8239271a23fc712d89047.
+// Erased by bindings/rust/erase from crates/service_log/src/etcd/etcd_store.rt, sha256 15fcce0a5e97dff5a95a344b15d0549f1e984f67cf99c7cb72d3226c4bf2cfbe.
 //! A store over etcd.
 
 use crate::kit::alloc::Global;
@@ -6,14 +6,15 @@ use crate::kit::http1::{Client, Limits};
 use crate::kit::String;
 use crate::kit::Vec;
 use crate::proved::service_log::etcd::answer::{
-    forget_text_of, read_get, read_gone, read_hint, read_put, Gone,
+    forget_text_of, read_append, read_get, read_gone, read_hint, read_put, Appended, Gone,
 };
 use crate::proved::service_log::etcd::dial::Dial;
 use crate::proved::service_log::etcd::exchange::exchange;
 use crate::proved::service_log::etcd::request::{
-    get_text, gone_text, hint_text, one_text, put_behind_text, put_hint_text, put_text, trim_text,
+    append_text, fence_text, get_text, gone_text, hint_text, one_text, put_behind_text,
+    put_hint_text, put_text, trim_text,
 };
-use crate::proved::service_log::store::{Put, Store, MOST_PLACES};
+use crate::proved::service_log::store::{Append, Put, Store, MOST_PLACES};
 use crate::proved::service_log::store_fault::StoreFault;
 
 /// The status of a response that answers.
@@ -28,6 +29,15 @@ const MOST_FOUND: usize = 256;
 /// The most entries that one request deletes. etcd takes 128 operations in a transaction.
 const MOST_DELETED: u64 = 100;
 
+/// The most places at which an entry is offered at once.
+const MOST_OFFERED: u64 = 4;
+
+/// The most bytes of an entry that is offered at several places at once, since the request has it for each place.
+const MOST_SHORT: usize = 2_048;
+
+/// For how many appends a store offers at several places, after others came first.
+const CONTESTED: u32 = 32;
+
 // A connection that is kept open.
 struct Kept<S> {
     stream: S,
@@ -38,6 +48,23 @@ struct Kept<S> {
 struct Last {
     place: u64,
     entry: Vec<u8>,
+}
+
+// Returns the entry at the place before this one, if it is this one.
+fn stood_at(last: &Option<Last>, place: u64) -> Option<&[u8]> {
+    let last = last.as_ref()?;
+    if last.place.checked_add(1) != Some(place) {
+        return None;
+    }
+    Some(&last.entry)
+}
+
+// Returns the revision at which the fence was changed last, so far as it is known. Never is 0.
+fn fence_known(fence: &Option<String>) -> &str {
+    match fence {
+        Some(revision) => revision.as_str(),
+        None => "0",
+    }
 }
 
 // Returns why a member answered with another status.
@@ -68,6 +95,9 @@ fn take_first(found: &mut Vec<Vec<u8>>, stood: &[u8]) -> Result<(), StoreFault> 
 /// Each put checks that the place before it still holds what this store wrote or read there last. So does each get that
 /// asks a member. If it does not, etcd was put back to an older state. A put then writes nothing and returns `Taken`,
 /// and a get returns the fault `WentBack`, or `Trimmed` where that entry was given up.
+///
+/// An append offers its entry at four places at once, if others came first of late. Its request goes to one member, once.
+/// After a fault the store changes the fence, which each append compares, and then puts at one place.
 pub struct EtcdStore<D: Dial> {
     alloc: Global,
     dial: D,
@@ -79,6 +109,17 @@ pub struct EtcdStore<D: Dial> {
     place: u64,
     /// What this store wrote or read last, and at which place.
     last: Option<Last>,
+    /// What it appended last.
+    own: Option<Last>,
+    /// The revision at which the fence was changed last, in digits, so far as it knows. Never is 0.
+    fence: Option<String>,
+    /// Whether what was offered last may get there later, since the answer was lost. Until a put at one place is answered behind
+    /// a change of the fence, nothing is offered at several places.
+    unsettled: bool,
+    /// For how many appends it offers at several places.
+    contested: u32,
+    /// Whether keys of another log are between those of this one, so that each entry is offered at one place.
+    single: bool,
 }
 
 impl<D: Dial> EtcdStore<D> {
@@ -94,6 +135,11 @@ impl<D: Dial> EtcdStore<D> {
             ahead: Vec::new(alloc),
             place: 0,
             last: None,
+            own: None,
+            fence: None,
+            unsettled: false,
+            contested: 0,
+            single: false,
         }
     }
 
@@ -162,13 +208,12 @@ impl<D: Dial> EtcdStore<D> {
         read_get(self.alloc, &body, 1, self.prefix.as_str(), place)
     }
 
-    // Returns what was written or read at the place before, if that was the last one. Not proved: it has no clause.
+    // Returns what was written or read at the place before, if that was the last one.
     fn stood_before(&self, place: u64) -> Option<&[u8]> {
-        let last = self.last.as_ref()?;
-        if last.place.checked_add(1) != Some(place) {
-            return None;
+        match stood_at(&self.own, place) {
+            Some(entry) => Some(entry),
+            None => stood_at(&self.last, place),
         }
-        Some(&last.entry)
     }
 
     // Returns the first place to ask for: the place before this one if it is known what that held, and otherwise this
@@ -285,20 +330,156 @@ impl<D: Dial> EtcdStore<D> {
             Err(_) => Err(StoreFault::Memory),
         }
     }
-}
 
-impl<D: Dial> Store for EtcdStore<D> {
-    fn put(&mut self, place: u64, entry: &[u8]) -> Result<Put, StoreFault> {
+    // Changes the fence, if an append may get there later. No such append is written then, since it compares the fence.
+    fn part(&mut self) -> Result<(), StoreFault> {
+        if !self.unsettled {
+            return Ok(());
+        }
+        let Ok(text) = fence_text(self.alloc, self.prefix.as_str()) else {
+            return Err(StoreFault::Memory);
+        };
+        self.ask(b"/v3/kv/put", &text)?;
+        Ok(())
+    }
+
+    // Whether an entry is offered at several places: others came first of late, it is short, and it is known what the place
+    // before holds. After a fault it is offered at one place, which was read.
+    fn offers_several(&self, place: u64, entry: &[u8]) -> bool {
+        self.contested > 0
+            && !self.unsettled
+            && !self.single
+            && entry.len() <= MOST_SHORT
+            && self.stood_before(place).is_some()
+    }
+
+    // Writes an entry at a place, if the place was never written.
+    fn put_one(&mut self, place: u64, entry: &[u8]) -> Result<Put, StoreFault> {
         let Ok(copy) = Vec::from_slice(self.alloc, entry) else {
             return Err(StoreFault::Memory);
         };
+        self.part()?;
         let text = self.text_of_put(place, entry)?;
+        self.unsettled = true;
         let body = self.ask(b"/v3/kv/txn", &text)?;
         let put = read_put(self.alloc, &body)?;
+        self.unsettled = false;
         if put == Put::Written {
             self.last = Some(Last { place, entry: copy });
         }
         Ok(put)
+    }
+
+    // Returns the text of the request that offers an entry at several places, after what was written or read before them.
+    fn text_of_offer(&self, place: u64, entry: &[u8]) -> Result<Vec<u8>, StoreFault> {
+        let prefix = self.prefix.as_str();
+        let last = place + MOST_OFFERED;
+        let Some(stood) = self.stood_before(place) else {
+            return Err(StoreFault::Wrong);
+        };
+        let fence = fence_known(&self.fence);
+        let text = append_text(self.alloc, prefix, place, last, stood, entry, fence);
+        match text {
+            Ok(text) => Ok(text),
+            Err(_) => Err(StoreFault::Memory),
+        }
+    }
+
+    // Asks one member once to offer an entry at several places. The store is unsettled unless an answer came.
+    fn offer(&mut self, place: u64, entry: &[u8]) -> Result<Appended, StoreFault> {
+        let text = self.text_of_offer(place, entry)?;
+        self.unsettled = true;
+        let answer = self.ask_once(b"/v3/kv/txn", &text);
+        if answer.is_err() {
+            self.member = self.member.wrapping_add(1);
+        }
+        let body = answer?;
+        let told = read_append(
+            self.alloc,
+            &body,
+            MOST_OFFERED as usize,
+            self.prefix.as_str(),
+            place,
+        )?;
+        self.unsettled = false;
+        Ok(told)
+    }
+
+    // Keeps what was found from a place on, for the next calls. Returns where this entry came to stand, if it is the last one.
+    fn take_found(
+        &mut self,
+        place: u64,
+        entry: Vec<u8>,
+        mut found: Vec<Vec<u8>>,
+    ) -> Result<Append, StoreFault> {
+        let at = place.saturating_add((found.len() as u64).saturating_sub(1));
+        let is_own = match found.last() {
+            Some(last) => *last == entry,
+            None => false,
+        };
+        if is_own {
+            found.pop();
+        }
+        found.reverse();
+        self.ahead = found;
+        self.place = place;
+        self.contested = if is_own && at == place {
+            self.contested.saturating_sub(1)
+        } else {
+            CONTESTED
+        };
+        if !is_own {
+            return Ok(Append::Nowhere);
+        }
+        if at >= MOST_PLACES {
+            return Err(StoreFault::Wrong);
+        }
+        self.own = Some(Last { place: at, entry });
+        Ok(Append::At(at))
+    }
+
+    // Offers an entry at several places, where that serves. Returns `None` if it offered it at none, or the fence was changed,
+    // or the place before does not hold what it held.
+    fn append_behind(&mut self, place: u64, entry: &[u8]) -> Result<Option<Append>, StoreFault> {
+        if !self.offers_several(place, entry) {
+            return Ok(None);
+        }
+        let Ok(copy) = Vec::from_slice(self.alloc, entry) else {
+            return Err(StoreFault::Memory);
+        };
+        match self.offer(place, entry) {
+            Ok(Appended::Found(found)) => Ok(Some(self.take_found(place, copy, found)?)),
+            Ok(Appended::Refused(revision)) => {
+                self.fence = Some(revision);
+                Ok(None)
+            }
+            Err(fault) => {
+                self.single = self.single || fault == StoreFault::Wrong;
+                Err(fault)
+            }
+        }
+    }
+}
+
+impl<D: Dial> Store for EtcdStore<D> {
+    fn put(&mut self, place: u64, entry: &[u8]) -> Result<Put, StoreFault> {
+        self.put_one(place, entry)
+    }
+
+    fn append(&mut self, place: u64, entry: &[u8]) -> Result<Append, StoreFault> {
+        if place >= MOST_PLACES {
+            return Ok(Append::Nowhere);
+        }
+        if let Some(append) = self.append_behind(place, entry)? {
+            return Ok(append);
+        }
+        match self.put_one(place, entry)? {
+            Put::Written => Ok(Append::At(place)),
+            Put::Taken => {
+                self.contested = CONTESTED;
+                Ok(Append::Nowhere)
+            }
+        }
     }
 
     fn get(&mut self, place: u64, entry: &mut Vec<u8>) -> Result<bool, StoreFault> {

@@ -1,4 +1,4 @@
-// Erased by bindings/rust/erase from crates/service_log/src/etcd/key.rt, sha256 890e96f61cfa05fa99c60205185cb2eacbf85ca44281b2a5dc17bcf0be228692.
+// Erased by bindings/rust/erase from crates/service_log/src/etcd/key.rt, sha256 8ff35e192f04636dc05ae6e9c42a988a7cb0ea3049f859ce72b701353e321ebd.
 //! The key of a place.
 
 use crate::kit::alloc::{AllocError, Global};
@@ -57,6 +57,18 @@ pub fn place_text(alloc: Global, place: u64) -> Result<Vec<u8>, AllocError> {
 pub fn hint_key64(alloc: Global, prefix: &str) -> Result<String, AllocError> {
     let mut key = Vec::from_slice(alloc, prefix.as_bytes())?;
     key.extend_from_slice(b"last")?;
+    STANDARD.encode(alloc, &key)
+}
+
+/// Returns the key under a prefix whose changes part the appends of before from those of later, in base64: the prefix and
+/// `fence`.
+///
+/// # Errors
+///
+/// `AllocError`: an allocation failed.
+pub fn fence_key64(alloc: Global, prefix: &str) -> Result<String, AllocError> {
+    let mut key = Vec::from_slice(alloc, prefix.as_bytes())?;
+    key.extend_from_slice(b"fence")?;
     STANDARD.encode(alloc, &key)
 }
 

@@ -1,4 +1,4 @@
-// Erased by bindings/rust/erase from crates/service_log/src/etcd/request.rt, sha256 33128bf2f991d0f54d4094bf501a6688f19a84254d6af9c1b7f57a4ece17df9e.
+// Erased by bindings/rust/erase from crates/service_log/src/etcd/request.rt, sha256 78c40ce47f3c1b72d83fd10fb9eaccebcfc2cfcfb485ac458e0ef954e8a5193f.
 //! The requests to etcd. Each is the text of a JSON value.
 
 use crate::kit::alloc::{AllocError, Global};
@@ -8,7 +8,7 @@ use crate::kit::vec;
 use crate::kit::String;
 use crate::kit::Vec;
 use crate::proved::service_log::etcd::key::{
-    gone_end64, gone_key64, hint_key64, key64, place_text, places_text,
+    fence_key64, gone_end64, gone_key64, hint_key64, key64, place_text, places_text,
 };
 
 // Makes a list of one item.
@@ -39,6 +39,15 @@ fn only<'a>(alloc: Global, name: &'a str, value: Value<'a>) -> Result<Value<'a>,
 fn object_of<'a>(
     alloc: Global,
     members: [(&'a str, Value<'a>); 2],
+) -> Result<Value<'a>, AllocError> {
+    let members = Vec::from_array(alloc, members)?;
+    Ok(Value::Object(members))
+}
+
+// Makes an object of three members.
+fn object_of_three<'a>(
+    alloc: Global,
+    members: [(&'a str, Value<'a>); 3],
 ) -> Result<Value<'a>, AllocError> {
     let members = Vec::from_array(alloc, members)?;
     Ok(Value::Object(members))
@@ -222,6 +231,143 @@ pub fn put_behind_text(
         end: end.as_str(),
     };
     text_behind(alloc, before.as_str(), last.as_str(), &keys, value.as_str())
+}
+
+// Makes the transaction that puts a value at the first of these keys that was never created.
+fn put_first<'a>(
+    alloc: Global,
+    keys: &'a [String],
+    value: &'a str,
+) -> Result<Value<'a>, AllocError> {
+    let Some((key, rest)) = keys.split_first() else {
+        return Ok(Value::Object(Vec::new(alloc)));
+    };
+    let never = never_created(alloc, key.as_str())?;
+    let compared = alone(alloc, never)?;
+    let put = success(alloc, key.as_str(), value)?;
+    let others = only(alloc, "request_txn", put_first(alloc, rest, value)?)?;
+    let failure = alone(alloc, others)?;
+    object_of_three(
+        alloc,
+        [
+            ("compare", compared),
+            ("success", put),
+            ("failure", failure),
+        ],
+    )
+}
+
+/// What an append compares and gets, all in base64 but the revision.
+#[derive(Clone, Copy)]
+struct Fenced<'a> {
+    /// The key that is changed where the answer to an append was lost.
+    fence: &'a str,
+    /// The revision at which it was changed last, in digits.
+    revision: &'a str,
+    /// The key before, and what it holds.
+    before: &'a str,
+    last: &'a str,
+    /// The keys from `gone` on that come before `end` say that the place was given up.
+    gone: &'a str,
+    end: &'a str,
+    /// The keys from `first` on that come before `until` are those of the places.
+    first: &'a str,
+    until: &'a str,
+}
+
+// Makes the three conditions of an append.
+fn append_conditions<'a>(alloc: Global, keys: &Fenced<'a>) -> Result<Value<'a>, AllocError> {
+    let same = compared(alloc, keys.fence, "MOD", "mod_revision", keys.revision)?;
+    let held = holds(alloc, keys.before, keys.last)?;
+    let not_gone = none_created(alloc, keys.gone, keys.end)?;
+    three(alloc, [same, held, not_gone])
+}
+
+// Makes what an append does where its conditions hold.
+fn first_free<'a>(
+    alloc: Global,
+    keys: &Fenced<'a>,
+    places: &'a [String],
+    value: &'a str,
+) -> Result<Value<'a>, AllocError> {
+    let put = only(alloc, "request_txn", put_first(alloc, places, value)?)?;
+    let found = range(alloc, keys.first, keys.until)?;
+    both(alloc, put, only(alloc, "request_range", found)?)
+}
+
+// Makes what an append does where its conditions do not hold.
+fn reads_fence<'a>(alloc: Global, fence: &'a str) -> Result<Value<'a>, AllocError> {
+    let key = only(alloc, "key", Value::String(fence))?;
+    alone(alloc, only(alloc, "request_range", key)?)
+}
+
+// Returns the text of an append.
+fn text_of_append<'a>(
+    alloc: Global,
+    keys: &Fenced<'a>,
+    places: &'a [String],
+    value: &'a str,
+) -> Result<Vec<u8>, AllocError> {
+    let compared = append_conditions(alloc, keys)?;
+    let put = first_free(alloc, keys, places, value)?;
+    let failure = reads_fence(alloc, keys.fence)?;
+    let append = object_of_three(
+        alloc,
+        [
+            ("compare", compared),
+            ("success", put),
+            ("failure", failure),
+        ],
+    )?;
+    to_vec(alloc, &append)
+}
+
+/// Returns the text of the request that puts an entry at the first place from `place` on before `last` that was never
+/// written, and gets what is there. It does so only if the place before holds `stood`, the place was not given up, and the
+/// fence was changed last at this revision, in digits.
+///
+/// # Errors
+///
+/// `AllocError`: an allocation failed.
+pub fn append_text(
+    alloc: Global,
+    prefix: &str,
+    place: u64,
+    last: u64,
+    stood: &[u8],
+    entry: &[u8],
+    revision: &str,
+) -> Result<Vec<u8>, AllocError> {
+    let fence = fence_key64(alloc, prefix)?;
+    let preceding = key64(alloc, prefix, place.saturating_sub(1))?;
+    let held = value64(alloc, stood)?;
+    let gone = gone_key64(alloc, prefix, place)?;
+    let end = gone_end64(alloc, prefix)?;
+    let first = key64(alloc, prefix, place)?;
+    let until = key64(alloc, prefix, last)?;
+    let places = keys64(alloc, prefix, place, last)?;
+    let value = value64(alloc, entry)?;
+    let keys = Fenced {
+        fence: fence.as_str(),
+        revision,
+        before: preceding.as_str(),
+        last: held.as_str(),
+        gone: gone.as_str(),
+        end: end.as_str(),
+        first: first.as_str(),
+        until: until.as_str(),
+    };
+    text_of_append(alloc, &keys, &places, value.as_str())
+}
+
+/// Returns the text of the request that changes the fence under a prefix.
+///
+/// # Errors
+///
+/// `AllocError`: an allocation failed.
+pub fn fence_text(alloc: Global, prefix: &str) -> Result<Vec<u8>, AllocError> {
+    let key = fence_key64(alloc, prefix)?;
+    to_vec(alloc, &only(alloc, "key", Value::String(key.as_str()))?)
 }
 
 // Makes the request for the keys from `key` on that come before `end`.

@@ -1,4 +1,4 @@
-// Erased by bindings/rust/erase from crates/service_watch/src/listeners/fault.rt, sha256 58ee31cf41426d2b60354d6eddb8cb17221776e2c48e9a1448a53b7a0db06657.
+// Erased by bindings/rust/erase from crates/service_watch/src/listeners/fault.rt, sha256 3f957f099f0a892f797bec9f34f4c35683025148a6f07d3575834e543b9f0ade.
 //! Why nothing is listened on.
 
 use crate::kit::io;
@@ -12,12 +12,10 @@ pub enum ListenFault {
     #[error("network fault: {0}")]
     Network(ErrorKind),
     /// Somebody listens on the socket of the path.
-    #[error("socket in use: somebody listens on the path of --unix")]
+    #[error("socket in use: somebody listens on the path of --unix or --admin")]
     InUse,
     /// What the path names is no socket.
-    #[error(
-        "socket fault: the path of --unix names a file, a folder or a link, which was not removed"
-    )]
+    #[error("socket fault: the path of --unix or --admin names a file, a folder or a link, which was not removed")]
     NotSocket,
     /// To look at the path, to remove an old socket, to listen there or to set the mode failed, so the system told.
     #[error("socket fault: {0}")]

@@ -1,4 +1,4 @@
-// Erased by bindings/rust/erase from crates/service_watch/src/listeners/listening.rt, sha256 67d233c1929adfea221144d6b1354b70f296afb6d6e5bf100de5408879fb71fa.
+// Erased by bindings/rust/erase from crates/service_watch/src/listeners/listening.rt, sha256 329842c1ce482b38ad2722eea26e55a567a26ca46420ad7fa64844dbb3853974.
 //! All that a server listens on.
 
 use crate::kit::alloc::Global;
@@ -8,7 +8,7 @@ use crate::kit::net::{Net, SocketAddr};
 use crate::kit::rt::Files;
 use crate::proved::service_watch::listeners::fault::ListenFault;
 use crate::proved::service_watch::listeners::socket_file::{
-    listen_at, LocalListener, SocketFile, SocketPlan,
+    listen_at, LocalListener, SocketFile, SocketFiles, SocketPlan,
 };
 
 /// What is to be listened on. With port 0 any is taken that is free.
@@ -18,6 +18,8 @@ pub struct ListenPlan<'a> {
     pub network: Option<SocketAddr>,
     /// The socket of the file system for clients.
     pub local: Option<SocketPlan<'a>>,
+    /// The socket of the file system for administrators.
+    pub admin: Option<SocketPlan<'a>>,
     /// The address and the port for whoever watches.
     pub metrics: Option<SocketAddr>,
 }
@@ -28,16 +30,18 @@ pub struct Listeners {
     pub network: Option<TcpListener>,
     /// For clients of this machine.
     pub local: Option<LocalListener>,
+    /// For administrators.
+    pub admin: Option<LocalListener>,
     /// For whoever watches.
     pub metrics: Option<TcpListener>,
 }
 
-/// What is listened on, and the file of the socket, which is to be removed at the end.
+/// What is listened on, and the files of the sockets, which are to be removed at the end.
 pub struct Listening {
     /// The listeners.
     pub listeners: Listeners,
-    /// The file of the socket, where there is one.
-    pub file: Option<SocketFile>,
+    /// The files of the sockets.
+    pub files: SocketFiles,
 }
 
 // Listens on a port, where one is wanted.
@@ -48,11 +52,26 @@ fn listen_on<R: Net>(rt: &R, address: Option<SocketAddr>) -> io::Result<Option<T
     }
 }
 
+// Listens on a socket of the file system, where one is wanted.
+fn listen_locally<R: Net + Files>(
+    rt: &R,
+    alloc: Global,
+    plan: Option<SocketPlan<'_>>,
+) -> Result<(Option<LocalListener>, Option<SocketFile>), ListenFault> {
+    match plan {
+        Some(plan) => {
+            let (listener, file) = listen_at(rt, alloc, plan)?;
+            Ok((Some(listener), Some(file)))
+        }
+        None => Ok((None, None)),
+    }
+}
+
 /// Listens on all that is wanted: first on the ports, so that nothing is made in the file system where one is taken.
 ///
 /// # Errors
 ///
-/// `Network` where the system refuses a port, and those of `listen_at` for the socket.
+/// `Network` where the system refuses a port, and those of `listen_at` for a socket.
 pub fn listen<R: Net + Files>(
     rt: &R,
     alloc: Global,
@@ -60,17 +79,18 @@ pub fn listen<R: Net + Files>(
 ) -> Result<Listening, ListenFault> {
     let network = listen_on(rt, plan.network)?;
     let metrics = listen_on(rt, plan.metrics)?;
-    let (local, file) = match plan.local {
-        Some(plan) => {
-            let (listener, file) = listen_at(rt, alloc, plan)?;
-            (Some(listener), Some(file))
-        }
-        None => (None, None),
-    };
-    let listeners = Listeners {
-        network,
-        local,
-        metrics,
-    };
-    Ok(Listening { listeners, file })
+    let (local, local_file) = listen_locally(rt, alloc, plan.local)?;
+    let (admin, admin_file) = listen_locally(rt, alloc, plan.admin)?;
+    Ok(Listening {
+        listeners: Listeners {
+            network,
+            local,
+            admin,
+            metrics,
+        },
+        files: SocketFiles {
+            local: local_file,
+            admin: admin_file,
+        },
+    })
 }

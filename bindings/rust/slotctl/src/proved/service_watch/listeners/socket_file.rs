@@ -1,4 +1,4 @@
-// Erased by bindings/rust/erase from crates/service_watch/src/listeners/socket_file.rt, sha256 7e5b8cfddba51d9b48322abffaef114e8de6946f69d52e090c9571e9b5d9a6be.
+// Erased by bindings/rust/erase from crates/service_watch/src/listeners/socket_file.rt, sha256 650d8252201e3a310e86311b85d3ca7c11f5165983fd626b683f201770dd1f29.
 //! A socket of the file system.
 
 use crate::kit::alloc::Global;
@@ -98,6 +98,27 @@ impl SocketFile {
             if held.dev() == self.device && held.ino() == self.number {
                 let _ = fs::remove_file(rt, &self.path);
             }
+        }
+    }
+}
+
+/// The files of all sockets that are listened on.
+pub struct SocketFiles {
+    /// That for clients, where there is one.
+    pub local: Option<SocketFile>,
+    /// That for administrators, where there is one.
+    pub admin: Option<SocketFile>,
+}
+
+impl SocketFiles {
+    /// Removes them, as `SocketFile::remove` does.
+    pub fn remove<R: Files>(self, rt: &R) {
+        let SocketFiles { local, admin } = self;
+        if let Some(file) = local {
+            file.remove(rt);
+        }
+        if let Some(file) = admin {
+            file.remove(rt);
         }
     }
 }
