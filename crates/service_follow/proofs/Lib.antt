@@ -10,6 +10,7 @@ mod Uncompacted
 mod Told
 mod TermsRead
 mod Silences
+mod LeaseLemmas
 mod Releasing
 mod Moves
 mod Refusals

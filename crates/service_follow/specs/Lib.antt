@@ -20,6 +20,7 @@ pub mod Watched
 pub mod Releases
 pub mod Decided
 pub mod Silence
+pub mod Leases
 pub mod Pauses
 pub mod Tallied
 pub mod lemmas

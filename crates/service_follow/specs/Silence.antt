@@ -1,5 +1,5 @@
 -- for how long the log told the same of a stay
-use Rattle.std.specs.Prelude.{◌≡◌, ◌⊎◌, ◌-◌, ◌<◌, ℕ, List, [], ◌∷◌, ◌++◌, All, map}
+use Rattle.std.specs.Prelude.{◌≡◌, ◌⊎◌, ℕ, List, [], ◌∷◌, ◌++◌, All, map}
 use Rattle.service_follow.specs.Watched.{watched}
 use Rattle.service_follow.specs.declared.front_end_stay.FrontEndStay.{FrontEndStay}
 use Rattle.service_follow.specs.declared.watches.Watch.{Watch}
@@ -30,7 +30,3 @@ pub record WasSo (w : Watch) (looks : List Look) : Type 0 where
   pub parts : looks ≡ before ++ first ∷ later
   pub tick : first.tick ≡ w.since
   pub told : All (λ (look : Look). IsAmong w.stay look.kept) (first ∷ later)
-
--- the clock of a front end tells a second less than 20 behind that at which it sent the last of its entries that stood
-abbrev pub MayAnswer : {T : Type 0} → (T → ℕ → Type 0) → T → ℕ → Type 0
-MayAnswer tells clock sent = (now : ℕ) × tells clock now × (now - sent < 20)

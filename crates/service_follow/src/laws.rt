@@ -1,6 +1,6 @@
 //! What a turn of the loop is over a queue of replies that was prefetched of a log.
 
-ghost use Rattle.std.specs.Prelude.{◌≡◌, ◌≢◌, ◌<◌, ◌^◌, ℕ, List, [], All, Option, Some, false, length};
+ghost use Rattle.std.specs.Prelude.{◌≡◌, ◌≢◌, ◌<◌, ◌+◌, ◌^◌, ℕ, List, [], All, Option, Some, false, length};
 ghost use Rattle.model_asked.specs.declared.config.Config.{Config};
 ghost use Rattle.service_log.specs.Groups.{IsDetermined};
 ghost use Rattle.service_log.specs.Places.{stands_in};
@@ -13,6 +13,7 @@ ghost use Rattle.service_follow.specs.Batches.{batch_by};
 ghost use Rattle.service_follow.specs.Desks.{ByDesk, HasItsDesk, lines_in};
 ghost use Rattle.service_follow.specs.Entries.{HallApplies, rules_of};
 ghost use Rattle.service_follow.specs.Hosted.{IsHostedAtEnd, IsHostedOverLog, IsPrefetched, IsReadAtEnd, IsUsedUp};
+ghost use Rattle.service_follow.specs.Leases.{IsUnbroken, Stood, lease_after};
 ghost use Rattle.service_follow.specs.Marks.{mark_of};
 ghost use Rattle.service_follow.specs.Said.{ReplyQueueReplies};
 ghost use Rattle.service_follow.specs.ReplyQueueState.{ReplyQueueState};
@@ -98,6 +99,12 @@ pub fn law_of_starts()
 /// look.
 pub fn law_of_silence()
     ensures { (looks : List Look) (w : Watch) → IsAmong w (after_looks looks) → WasSo w looks }
+{}
+
+/// A law, which runs nothing, of the entries of a front end that stood: as long as its lease is the same, each was known to stand less than 20 seconds
+/// after the one before was sent. So no other front end ended a stay that it kept at the first, for that takes longer (`law_of_silence`).
+pub fn law_of_leases()
+    ensures { (lease sent : ℕ) (entries : List Stood) → lease + length entries < 2 ^ 64 → lease_after lease sent entries ≡ lease → IsUnbroken sent entries }
 {}
 
 /// A law, which runs nothing, of a turn of the loop (`service_loop::iterate`) over a queue of replies that was prefetched of a log and was used up: it

@@ -69,8 +69,8 @@ pub mod watches;
 pub use front_end_stay::FrontEndStay;
 pub use hall_terms::{HallTerms, ToldTerms, terms_of};
 pub use laws::{
-    law_of_batches, law_of_compactions, law_of_halls, law_of_keepers, law_of_log_hosting,
-    law_of_reads, law_of_silence, law_of_starts, law_of_tellings, law_of_terms,
+    law_of_batches, law_of_compactions, law_of_halls, law_of_keepers, law_of_leases,
+    law_of_log_hosting, law_of_reads, law_of_silence, law_of_starts, law_of_tellings, law_of_terms,
 };
 pub use log_fault::LogFault;
 pub use log_hall::LogHall;

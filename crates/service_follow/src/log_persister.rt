@@ -1,6 +1,6 @@
 //! Serves the clients of one front end over a log.
 
-ghost use Rattle.std.specs.Prelude.{◌≡◌, ◌≢◌, ◌↔◌, ◌==◌, ◌+◌, ◌-◌, ◌++◌, ◌<◌, ◌≤◌, ◌⊎◌, ℕ, [], true, false, ltb, map, None, Some, Ok, Err, OnOk, IfOk, IfSome, All};
+ghost use Rattle.std.specs.Prelude.{◌≡◌, ◌≢◌, ◌↔◌, ◌==◌, ◌&&◌, ◌+◌, ◌-◌, ◌++◌, ◌<◌, ◌≤◌, ◌⊎◌, ℕ, [], true, false, ltb, map, None, Some, Ok, Err, OnOk, IfOk, IfSome, All};
 ghost use Rattle.std.specs.List.{list_any};
 ghost use Rattle.std.specs.String.{string_bytes};
 ghost use Rattle.service_log.specs.Places.{Keeps, Same};
@@ -9,6 +9,7 @@ ghost use Rattle.service_follow.specs.Decided.{AddsBatch, HasLooked, IsDecided, 
 ghost use Rattle.service_hall.specs.Reading.{all_admitted};
 ghost use Rattle.service_hall.specs.declared.reads.Reads.TheVariants.{Logged, Plain};
 ghost use Rattle.service_follow.specs.Hosted.{HasAppliedAll, HasGoneOn, HasMovedOn, IsAtEnd, IsOpened, IsPrefetchedBy, IsReadBy, IsServed};
+ghost use Rattle.service_follow.specs.Leases.{IsRenewedBy};
 ghost use Rattle.service_follow.specs.Pauses.{IsSpent};
 ghost use Rattle.service_follow.specs.Readings.{are_reads, read_by, requested, requests_in};
 ghost use Rattle.service_follow.specs.Said.{reply_queue_of};
@@ -538,6 +539,8 @@ impl<S: Store, T: Pause> LogPersister<S, T> {
         ensures moved { HasMovedOn S.stands self.old.log self.new.log }
         ensures head { (self.new.count ≡ self.old.count) × (self.new.token ≡ self.old.token) }
         ensures sent { result ≡ Ok Prefetch.Known → T.tells self.old.pause self.new.sessions.sent }
+        ensures lease { result ≡ Ok Prefetch.Known → IsRenewedBy T.tells self.new.pause self.old.sessions.sent self.old.sessions.lease self.new.sessions.lease }
+        ensures unsent { result ≢ Ok Prefetch.Known → self.new.sessions ≡ self.old.sessions }
         ensures well { result ≡ Ok Prefetch.Known → self.new.log.replica.poisoned ≡ false }
     {
         let now = self.pause.seconds();
@@ -558,7 +561,7 @@ impl<S: Store, T: Pause> LogPersister<S, T> {
                 }
                 self.no_space = false;
                 self.answers = true;
-                self.sessions.sent = now;
+                self.sessions.renew(now, self.pause.seconds());
                 return Ok(Prefetch::Known);
             };
             self.no_space = fault == ServeFault::Unknown(Cause::Store(StoreFault::NoSpace));
@@ -719,12 +722,21 @@ impl<S: Store, T: Pause> LogPersister<S, T> {
         true
     }
 
-    /// Returns true if and only if this front end may answer those who keep stays: it sent the last of its entries that stood less than 20
-    /// seconds ago. Others end its stays only later than that and the grace time.
-    pub fn may_answer_stays(&self) -> bool
-        ensures { (now : ℕ) × T.tells self.now.pause now × (result ≡ ltb (now - self.now.sessions.sent) 20) }
+    /// Returns the lease since which a stay is kept that begins now: that of its next entry. A lease lapses 20 seconds after the last of its entries that
+    /// stood was sent, and then the next entry begins another.
+    pub fn lease(&self) -> u64
+        ensures { IsRenewedBy T.tells self.now.pause self.now.sessions.sent self.now.sessions.lease result }
     {
-        self.sessions.may_answer(self.pause.seconds())
+        self.sessions.lease_at(self.pause.seconds())
+    }
+
+    /// Returns true if and only if this front end may answer those who keep stays since this lease: it goes on. The last of its entries that stood was
+    /// sent less than 20 seconds ago, and each was known to stand less than 20 seconds after the one before was sent. Others end its stays only later
+    /// than that and the grace time.
+    pub fn may_answer_stays(&self, lease: u64) -> bool
+        ensures { (now : ℕ) × T.tells self.now.pause now × (result ≡ ((lease == self.now.sessions.lease) && ltb (now - self.now.sessions.sent) 20)) }
+    {
+        self.sessions.may_answer(lease, self.pause.seconds())
     }
 
     // Offers a compaction if one is due, where the log tells no other terms, and answers nothing.
@@ -848,11 +860,12 @@ impl<S: Store, T: Pause> LogPersister<S, T> {
         ensures counted { (self.new.count ≡ self.old.count) ⊎ (self.new.count ≡ next_count self.old.count) }
         ensures moved { HasMovedOn S.stands self.old.log self.new.log }
         ensures looked { (self.new.sessions.watches ≡ self.old.sessions.watches) × (self.new.sessions.reads ≡ self.old.sessions.reads) }
-        ensures sent { (self.new.sessions.sent ≡ self.old.sessions.sent) ⊎ (T.tells self.old.pause self.new.sessions.sent × S.stands self.new.log.store
-            self.old.log.stays.place (batch_of self.old.token self.new.count lines.now)) }
+        ensures sent { ((self.new.sessions.sent ≡ self.old.sessions.sent) × (self.new.sessions.lease ≡ self.old.sessions.lease)) ⊎
+            (T.tells self.old.pause self.new.sessions.sent × S.stands self.new.log.store self.old.log.stays.place (batch_of self.old.token self.new.count lines.now) ×
+            IsRenewedBy T.tells self.new.pause self.old.sessions.sent self.old.sessions.lease self.new.sessions.lease) }
         ensures token { self.new.token ≡ self.old.token }
     {
-        let now = self.pause.seconds();
+        let sent = self.pause.seconds();
         let count = self.count.wrapping_add(1);
         let Ok(()) = put_batch(
             &mut self.batch,
@@ -867,7 +880,7 @@ impl<S: Store, T: Pause> LogPersister<S, T> {
         match self.log.offer(&self.batch, reply_queue) {
             Ok(Step::Answered) => {
                 self.gone.stand();
-                self.sessions.sent = now;
+                self.sessions.renew(sent, self.pause.seconds());
                 Ok(())
             }
             Ok(Step::Passed | Step::Nothing) => Ok(()),
@@ -971,9 +984,9 @@ impl<S: Store, T: Pause> Persist<ReplyQueue> for LogPersister<S, T> {
 
     ghost shares = { λ k. true };
 
-    ghost use Rattle.service_follow.specs.Silence.{MayAnswer};
+    ghost use Rattle.service_follow.specs.Leases.{MayAnswer};
 
-    ghost may_answer = { λ k. MayAnswer T.tells k.pause k.sessions.sent };
+    ghost may_answer = { λ k lease. MayAnswer T.tells k.pause k.sessions.sent k.sessions.lease lease };
 
     fn put_held<B: Allocator>(
         &self,
@@ -1056,10 +1069,14 @@ impl<S: Store, T: Pause> Persist<ReplyQueue> for LogPersister<S, T> {
         self.log.hall().slots().pool().stay_of(identity).is_some()
     }
 
-    fn may_answer_stays(&self) -> bool
-        ensures clock { (now : ℕ) × T.tells self.now.pause now × (result ≡ ltb (now - self.now.sessions.sent) 20) }
+    fn lease(&self) -> u64 {
+        LogPersister::lease(self)
+    }
+
+    fn may_answer_stays(&self, lease: u64) -> bool
+        ensures clock { (now : ℕ) × T.tells self.now.pause now × (result ≡ ((lease == self.now.sessions.lease) && ltb (now - self.now.sessions.sent) 20)) }
     {
-        LogPersister::may_answer_stays(self)
+        LogPersister::may_answer_stays(self, lease)
     }
 
     fn changes(&self) -> Option<&Feed> {

@@ -1,7 +1,8 @@
 //! What a front end knows of who keeps stays in the pool.
 
-ghost use Rattle.std.specs.Prelude.{◌≡◌, ◌-◌, ◌&&◌, leb, ltb, map, OnOk, IfOk};
+ghost use Rattle.std.specs.Prelude.{◌≡◌, ◌-◌, ◌==◌, ◌&&◌, leb, ltb, map, OnOk, IfOk};
 ghost use Rattle.service_follow.specs.Decided.{ended_of, next_read};
+ghost use Rattle.service_follow.specs.Leases.{lease_at};
 ghost use Rattle.service_follow.specs.Watched.{keeps_one, watched};
 
 use crate::front_end_stay::FrontEndStay;
@@ -28,6 +29,9 @@ pub(crate) struct Sessions {
     pub(crate) reads: u64,
     /// The second in which the last entry of this front end that stood was sent.
     pub(crate) sent: u64,
+    /// The lease of that entry. Another begins with an entry that is known to stand only once the lease before has lapsed: `MOST_SILENT` seconds
+    /// after the entry before it was sent. Others may have ended stays meanwhile.
+    pub(crate) lease: u64,
 }
 
 impl Sessions {
@@ -38,6 +42,7 @@ impl Sessions {
             grace: 0,
             reads: 0,
             sent: 0,
+            lease: 0,
         }
     }
 
@@ -57,7 +62,7 @@ impl Sessions {
             ended_of token.now left.now self.old.grace self.new.reads self.old.watches.watches.items kept.now) }
         ensures looked { OnOk result (self.new.watches.watches.items ≡ map (watched self.new.reads self.old.watches.watches.items) kept.now) }
         ensures counted { OnOk result (self.new.reads ≡ next_read self.old.reads) }
-        ensures same { (self.new.grace ≡ self.old.grace) × (self.new.sent ≡ self.old.sent) }
+        ensures same { (self.new.grace ≡ self.old.grace) × (self.new.sent ≡ self.old.sent) × (self.new.lease ≡ self.old.lease) }
     {
         self.reads = self.reads.saturating_add(1);
         self.watches.look(kept, self.reads)?;
@@ -74,11 +79,37 @@ impl Sessions {
         self.watches.keeps_one(token) && HEARTBEAT <= now.saturating_sub(self.sent)
     }
 
-    /// Returns true if and only if the last entry of this front end that stood was sent so lately before this second that no other ends stays
-    /// that it keeps.
-    pub(crate) fn may_answer(&self, now: u64) -> bool
+    // Whether the lease of the last entry goes on at this second.
+    fn goes_on(&self, now: u64) -> bool
         ensures { result ≡ ltb (now - self.now.sent) 20 }
     {
         now.saturating_sub(self.sent) < MOST_SILENT
+    }
+
+    /// Returns the lease of an entry that is known to stand at this second.
+    pub(crate) fn lease_at(&self, now: u64) -> u64
+        ensures { result ≡ lease_at self.now.lease self.now.sent now }
+    {
+        if self.goes_on(now) {
+            self.lease
+        } else {
+            self.lease.wrapping_add(1)
+        }
+    }
+
+    /// An entry that was sent in one second is known to stand in another.
+    pub(crate) fn renew(&mut self, sent: u64, now: u64)
+        ensures { self.new ≡ record self.old { sent = sent; lease = lease_at self.old.lease self.old.sent now } }
+    {
+        self.lease = self.lease_at(now);
+        self.sent = sent;
+    }
+
+    /// Returns true if and only if this is the lease of the last entry of this front end that stood, and that was sent so lately before this second that
+    /// no other ends stays that it keeps.
+    pub(crate) fn may_answer(&self, lease: u64, now: u64) -> bool
+        ensures { result ≡ ((lease == self.now.lease) && ltb (now - self.now.sent) 20) }
+    {
+        lease == self.lease && self.goes_on(now)
     }
 }

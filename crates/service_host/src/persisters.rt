@@ -64,7 +64,7 @@ impl Persist<Reading<Hall>> for Unrecorded {
     ghost shares = { λ k. false };
 
     // No other server ends its stays.
-    ghost may_answer = { λ k. Unit {0} };
+    ghost may_answer = { λ k lease. Unit {0} };
 
     fn put_held<B: Allocator>(
         &self,
@@ -124,7 +124,11 @@ impl Persist<Reading<Hall>> for Unrecorded {
         reading.service.slots().pool().stay_of(identity).is_some()
     }
 
-    fn may_answer_stays(&self) -> bool {
+    fn lease(&self) -> u64 {
+        0
+    }
+
+    fn may_answer_stays(&self, _lease: u64) -> bool {
         true
     }
 
@@ -209,7 +213,7 @@ impl<D: Disk> Persist<Reading<WriteAhead>> for Recorded<D> {
     ghost shares = { λ k. false };
 
     // No other server ends its stays.
-    ghost may_answer = { λ k. Unit {0} };
+    ghost may_answer = { λ k lease. Unit {0} };
 
     fn put_held<B: Allocator>(
         &self,
@@ -272,7 +276,11 @@ impl<D: Disk> Persist<Reading<WriteAhead>> for Recorded<D> {
             .is_some()
     }
 
-    fn may_answer_stays(&self) -> bool {
+    fn lease(&self) -> u64 {
+        0
+    }
+
+    fn may_answer_stays(&self, _lease: u64) -> bool {
         true
     }
 

@@ -24,10 +24,10 @@ pub record EndsAtTick {D K : Type 0} (ends : List ℕ → K → Attended D → K
   pub due : (g : ℕ) → grace ≡ Some g → passed ≡ true → ends (all_due g tick w.stays) k w l u
   pub only : ((l ≡ k) × (u ≡ w)) ⊎ ((g : ℕ) × (grace ≡ Some g) × ends (all_due g tick w.stays) k w l u)
 
--- It was heard which connections had ended. Whoever keeps a stay then may be answered, or is at fault; and then the stays that are due are ended
+-- It was heard which connections had ended, and the stays that are due are ended. Whoever keeps a stay then may be answered, or is at fault
 pub record HearsAndEnds {D K S A : Type 0} (may_answer : K → Type 0) (ends : List ℕ → K → Attended D → K → Attended D → Type 0) (grace : Option ℕ) (passed : Bool) (tick : ℕ) (acts : List Act) (numbers : List ℕ) (seats : List (Option (Connection S A))) (k : K) (w : Attended D) (l : K) (u : Attended D) : Type 0 where
   pub heard : Attended D
   pub hears : Hears acts w heard
   pub same : heard.service ≡ w.service
-  pub keepers : MayServe (may_answer k) heard.stays numbers seats
   pub ended : EndsAtTick ends grace passed tick k heard l u
+  pub keepers : MayServe (may_answer l) u.stays numbers seats

@@ -1,9 +1,9 @@
 //! The connections of a server, their seats, and who is to have a turn.
 
-ghost use Rattle.std.specs.Prelude.{◌≡◌, ◌≤◌, ◌+◌, ◌++◌, ◌<◌, ◌∷◌, [], false, length, drop, get_or, None, IfOk, OnOk};
+ghost use Rattle.std.specs.Prelude.{◌≡◌, ◌⊎◌, ◌≤◌, ◌+◌, ◌++◌, ◌<◌, ◌∷◌, [], false, length, drop, get_or, None, IfOk, OnOk};
 ghost use Rattle.service_watch.specs.durations.Histogram.{capped};
 ghost use Rattle.service_loop.specs.Attending.{Hears, acts_of_endings, number_at};
-ghost use Rattle.service_loop.specs.Keepers.{MayServe};
+ghost use Rattle.service_loop.specs.Keepers.{KeepersFail, MayServe};
 ghost use Rattle.service_loop.specs.Table.{ending_at, is_swept, most_rest, seat_over};
 ghost use Rattle.service_loop.specs.Sendings.{Unsent, sockets};
 
@@ -49,6 +49,8 @@ pub struct ConnectionTable {
     pub faults: u64,
     /// The connections that have ended since this list was last emptied. One that said `quit` may stand in it twice.
     pub ended: Vec<Ending>,
+    /// The lease since which those who are not at fault keep their stays.
+    pub lease: u64,
     /// How many lines were taken of those that have left.
     lines: u64,
     /// The seats whose connections wait for changes of who holds numbers.
@@ -145,6 +147,7 @@ impl ConnectionTable {
             served: 0,
             faults: 0,
             ended: Vec::new(alloc),
+            lease: 0,
             lines: 0,
             watchers: Watchers::new(alloc),
             later: Vec::with_capacity(alloc, few)?,
@@ -320,14 +323,15 @@ impl ConnectionTable {
     pub fn note_ended<D>(&mut self, service: &mut Attended<D>, lost: bool, tick: u64)
         ensures hears { Hears (acts_of_endings tick lost self.old.ended.items) service.old service.new }
         ensures same { service.new.service ≡ service.old.service }
-        ensures table { (self.new.numbers ≡ self.old.numbers) × (self.new.seats ≡ self.old.seats) }
+        ensures table { (self.new.numbers ≡ self.old.numbers) × (self.new.seats ≡ self.old.seats) × (self.new.lease ≡ self.old.lease) }
     {
         service.end_all(&self.ended, tick);
         self.ended.clear();
         service.end_lost(lost, tick);
     }
 
-    /// Where the persister may not answer those who keep stays, each connection that keeps one is at fault and due.
+    /// Where the persister may not answer those who keep stays, each connection that keeps one is at fault and due. Those who begin to keep one
+    /// later do so since another lease.
     ///
     /// # Errors
     ///
@@ -337,14 +341,17 @@ impl ConnectionTable {
         persister: &K,
         stays: &Stays,
     ) -> Result<(), AllocError>
-        ensures serves { OnOk result (MayServe (K.may_answer persister.now) stays.now self.old.numbers.items self.new.seats.items) }
+        ensures serves { OnOk result (MayServe (K.may_answer persister.now self.old.lease) stays.now self.old.numbers.items self.new.seats.items) }
+        ensures lease { OnOk result ((self.new.lease ≡ self.old.lease) ⊎ KeepersFail stays.now self.old.numbers.items self.new.seats.items) }
         ensures unsent { OnOk result (Unsent sockets self.old.seats.items self.new.seats.items) }
         ensures same { self.new.numbers ≡ self.old.numbers }
     {
-        if persister.may_answer_stays() {
+        if persister.may_answer_stays(self.lease) {
             return Ok(());
         }
-        fail_keepers(&mut self.seats, self.numbers.all(), stays, &mut self.ready)
+        fail_keepers(&mut self.seats, self.numbers.all(), stays, &mut self.ready)?;
+        self.lease = persister.lease();
+        Ok(())
     }
 
     // A connection that was called to take a number is due again, whether it took one or not.

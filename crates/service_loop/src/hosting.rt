@@ -689,9 +689,12 @@ impl Hosting {
         ensures room { AreShared shared.new }
         ensures attended { OnOk result (WasAttended hosted manner D.may K.prefetches K.persists K.waits K.shares K.holds grace
             persister.old service.old persister.new service.new) }
-        ensures keepers { OnOk result ((heard : Attended D) × (seats : List (Option (Connection Socket Global))) ×
-            Hears (acts_of_endings self.old.tick self.old.lost self.old.connections.ended.items) service.old heard ×
-            SendsToKeepers sockets (K.may_answer persister.old) heard.stays self.old.connections.numbers.items self.old.connections.seats.items seats) }
+        ensures keepers { OnOk result ((k : K) × (w : Attended D) × (seats seats' : List (Option (Connection Socket Global))) ×
+            HearsAndEnds (λ k. K.may_answer k self.old.connections.lease) (EndsDue manner.wide D.may K.persists K.waits K.shares K.holds)
+            grace self.old.looks self.old.tick (acts_of_endings self.old.tick self.old.lost self.old.connections.ended.items)
+            self.old.connections.numbers.items seats persister.old service.old k w ×
+            SendsToKeepers sockets (K.may_answer k self.old.connections.lease) w.stays
+            self.old.connections.numbers.items self.old.connections.seats.items seats') }
     {
         self.end_stays(rt, manner, grace, service, persister, shared)?;
         self.serve(rt, manner, service, persister, shared)
@@ -909,15 +912,17 @@ impl Hosting {
         ensures room { AreShared shared.new }
         ensures attended { OnOk result (WasAttended hosted manner D.may K.prefetches K.persists K.waits K.shares K.holds grace
             persister.old service.old persister.new service.new) }
-        ensures ends { OnOk result (HearsAndEnds K.may_answer (EndsDue manner.wide D.may K.persists K.waits K.shares K.holds) grace self.old.looks self.old.tick
-            (acts_of_endings self.old.tick self.old.lost self.old.connections.ended.items) self.old.connections.numbers.items self.new.connections.seats.items
-            persister.old service.old persister.new service.new) }
+        ensures ends { OnOk result (HearsAndEnds (λ k. K.may_answer k self.old.connections.lease) (EndsDue manner.wide D.may K.persists K.waits K.shares K.holds)
+            grace self.old.looks self.old.tick (acts_of_endings self.old.tick self.old.lost self.old.connections.ended.items)
+            self.old.connections.numbers.items self.new.connections.seats.items persister.old service.old persister.new service.new) }
         ensures unsent { OnOk result (Unsent sockets self.old.connections.seats.items self.new.connections.seats.items) }
     {
         let ended = self.has_ended();
         self.connections.note_ended(service, self.lost, self.tick);
+        self.end_if_due(rt, manner, grace, service, persister, shared, ended)?;
+        // To end stays may take long, so that is asked last.
         self.connections.check_keepers(persister, &service.stays)?;
-        self.end_if_due(rt, manner, grace, service, persister, shared, ended)
+        Ok(())
     }
 
     // Ends the stays that are due, where a second has passed or connections have ended, and any are to end.

@@ -43,8 +43,8 @@ pub trait Persist<D> {
     /// Whether other servers share the service's stays.
     ghost shares: { Self → Bool };
 
-    /// Who keeps a stay may be answered: nobody else has ended it, by the clock that the persister trusts.
-    ghost may_answer: { Self → Type 0 };
+    /// Who keeps a stay since this lease may be answered: nobody else has ended it, by the clock that the persister trusts.
+    ghost may_answer: { Self → ℕ → Type 0 };
 
     /// Appends who holds numbers, as it is asked.
     fn put_held<B: Allocator>(&self, service: &D, query: HeldQuery, out: &mut Replies<B>)
@@ -95,9 +95,12 @@ pub trait Persist<D> {
     fn has_stay(&self, service: &D, identity: u64) -> bool
         ensures { result ≡ is_some (stay_of identity (holds self.now service.now).pool.competitors) };
 
-    /// Whether this server may still answer those who keep stays. Where it may not they are closed, and nothing is sent to them.
-    fn may_answer_stays(&self) -> bool
-        ensures { result ≡ true → may_answer self.now };
+    /// The lease in which a stay is kept that begins now. Another begins where others may have ended the stays that were kept before.
+    fn lease(&self) -> u64;
+
+    /// Whether this server may still answer those who keep stays since this lease. Where it may not they are closed, and nothing is sent to them.
+    fn may_answer_stays(&self, lease: u64) -> bool
+        ensures { result ≡ true → may_answer self.now lease };
 
     /// What changes of who holds numbers, where other servers share the service; `None` where none does: then the loop notes it.
     fn changes(&self) -> Option<&Feed> {

@@ -3,8 +3,10 @@ use Rattle.std.proofs.Common.{rules, ◌≡◌, ap, inl, inr, sym, ◌∙◌, ar
 use Rattle.service_log.specs.ReplicaState.{ReplicaState}
 use Rattle.service_hall.specs.HallState.{HallState}
 use Rattle.service_follow.specs.Entries.{behind_first_line}
+use Rattle.service_follow.specs.Leases.{lease_at}
 use Rattle.service_follow.specs.Marks.{mark_of}
 use Rattle.service_follow.specs.declared.marks.Mark.TheVariants.{Ordinary}
+use Rattle.service_follow.specs.declared.sessions.Sessions.{Sessions}
 use Rattle.service_follow.proofs.Heads.{waited_more}
 use Rattle.service_follow.proofs.Moves.{moved_then}
 use Rattle.service_follow.proofs.log_persister.LogPersister.serve_batch.Goals as goal
@@ -32,6 +34,7 @@ pub loop-tries-preserved : goal.loop-tries-preserved
 loop-tries-preserved g c = record {
   batch = c.loop-tries.invariant.batch;
   head = c.loop-tries.invariant.head;
+  sessions = c.loop-tries.invariant.sessions;
   silent = c.in-Err.ensures.unanswered;
   moved = moved_then g.S.Store.stands c.args.self.now.log c.loop-tries.self.log c.serve.new.self c.loop-tries.invariant.moved c.serve.ensures.moved;
   waited = waited_more g.T.Pause.waited c.loop-tries._tries c.loop-tries.self.pause c.again.new.self c.loop-tries.invariant.waited (c.again.ensures.waited (search rules));
@@ -42,6 +45,11 @@ returns-then-not-again-clause-patient g c = λ lost. inl (c.again.ensures.over (
 
 pub returns-clause-patient : goal.returns-clause-patient
 returns-clause-patient g c = λ lost. inr (c.loop-tries._tries, search rules, c.loop-tries.invariant.waited)
+
+pub returns-in_default-clause-lease : goal.returns-in_default-clause-lease
+returns-in_default-clause-lease g c = λ known.
+    let now = c.seconds.result in
+    (now, c.seconds.ensures, ap (λ (s : Sessions). s.lease) c.renew.ensures ∙ ap (λ (s : Sessions). lease_at s.lease s.sent now) c.loop-tries.invariant.sessions)
 
 pub returns-in_default-clause-well : goal.returns-in_default-clause-well
 returns-in_default-clause-well g c = λ known. ap (λ (r : ReplicaState HallState). r.poisoned) c.serve.ensures.part ∙ c.in_default.ensures.due.is_well

@@ -13,15 +13,19 @@ returns-clause-attended g c =
 
 pub returns-clause-keepers : goal.returns-clause-keepers
 returns-clause-keepers g c =
-    let may = g.K.Persist.may_answer c.args.persister.now in
+    let k = c.end_stays.new.persister in
+    let w = c.end_stays.new.service in
+    let may = g.K.Persist.may_answer k c.args.self.now.connections.lease in
     let e = c.in_ok-end_stays.ensures.ends in
     let numbers = c.args.self.now.connections.numbers.items in
     let before = c.args.self.now.connections.seats.items in
     let checked = c.end_stays.new.self.connections.seats.items in
     ok_then c.serve.result _ _ (λ sent. (
-      e.heard,
+      k,
+      w,
+      checked,
       sent.0,
-      e.hears,
-      sends_keepers_of sockets may e.heard.stays numbers before checked sent.0 c.in_ok-end_stays.ensures.unsent
-          (sends_keepers sockets may e.heard.stays numbers checked sent.0 e.keepers sent.1),
+      e,
+      sends_keepers_of sockets may w.stays numbers before checked sent.0 c.in_ok-end_stays.ensures.unsent
+          (sends_keepers sockets may w.stays numbers checked sent.0 e.keepers sent.1),
     )) c.serve.ensures.sent
