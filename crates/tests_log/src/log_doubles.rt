@@ -169,14 +169,23 @@ impl Pause for HandClock<'_> {
     }
 }
 
-/// A log that several front ends share. Where an entry of a rival waits, it is written before the next one.
+/// A log that several front ends share. Where an entry of a rival waits, it is written before the next one, which comes so many seconds late.
 #[derive(Drop)]
 pub(crate) struct SharedLog<'a> {
     pub(crate) log: &'a RefCell<MemoryStore>,
     pub(crate) rival: &'a RefCell<Vec<u8>>,
+    pub(crate) late: &'a Cell<u64>,
+    pub(crate) seconds: &'a Cell<u64>,
 }
 
 impl SharedLog<'_> {
+    // So much time passes as the next entry is late.
+    fn pass_late(&self) {
+        self.seconds
+            .set(self.seconds.get().wrapping_add(self.late.get()));
+        self.late.set(0);
+    }
+
     // Writes the entry of the rival that waits, if any does. Tells whether the log took it.
     fn let_rival_in(&self, log: &mut MemoryStore, place: u64) -> bool {
         let Ok(mut rival) = self.rival.try_borrow_mut() else {
@@ -207,6 +216,7 @@ impl Store for SharedLog<'_> {
         if !self.let_rival_in(&mut log, place) {
             return Err(StoreFault::Lost);
         }
+        self.pass_late();
         match log.put(place, entry) {
             Ok(put) => Ok(put),
             Err(_) => Err(StoreFault::Lost),
@@ -220,6 +230,7 @@ impl Store for SharedLog<'_> {
         if !self.let_rival_in(&mut log, place) {
             return Err(StoreFault::Lost);
         }
+        self.pass_late();
         match log.append(place, entry) {
             Ok(append) => Ok(append),
             Err(_) => Err(StoreFault::Lost),

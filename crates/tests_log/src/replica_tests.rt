@@ -3,7 +3,7 @@
 use crate::log_doubles::{Late, Lossy, Notebook, SharedLog};
 use service_log::{Cause, Group, MemoryStore, Put, Replica, ServeFault, Step, Store, StoreFault};
 use std::alloc::{AllocError, Global};
-use std::cell::RefCell;
+use std::cell::{Cell, RefCell};
 
 /// A machine to which nothing was applied.
 fn notebook(alloc: Global, refusals: u64) -> Notebook {
@@ -85,9 +85,12 @@ fn finds_what_came_late(alloc: Global) -> bool {
 fn stands_behind_a_rival(alloc: Global) -> Result<bool, AllocError> {
     let log = RefCell::new(MemoryStore::new(alloc));
     let rival = RefCell::new(Vec::from_slice(alloc, b"2 b")?);
+    let (late, seconds) = (Cell::new(0), Cell::new(0));
     let mut store = SharedLog {
         log: &log,
         rival: &rival,
+        late: &late,
+        seconds: &seconds,
     };
     let mut replies = Vec::new(alloc);
     let mut one = replica(alloc, 0);

@@ -15,12 +15,13 @@ pub(crate) const GRACE: u32 = 10;
 /// A front end of a shared log.
 pub(crate) type FrontEnd<'a> = LogPersister<SharedLog<'a>, HandClock<'a>>;
 
-/// What front ends share: their log, an entry that comes before the next one, and their clock.
+/// What front ends share: their log, an entry that comes before the next one, for how many seconds that is late, and their clock.
 #[derive(Drop)]
 pub(crate) struct Site {
     pub(crate) alloc: Global,
     pub(crate) log: RefCell<MemoryStore>,
     rival: RefCell<Vec<u8>>,
+    late: Cell<u64>,
     seconds: Cell<u64>,
 }
 
@@ -31,6 +32,7 @@ impl Site {
             alloc,
             log: RefCell::new(MemoryStore::new(alloc)),
             rival: RefCell::new(Vec::new(alloc)),
+            late: Cell::new(0),
             seconds: Cell::new(0),
         }
     }
@@ -65,6 +67,11 @@ impl Site {
         self.seconds.set(self.seconds.get().wrapping_add(1));
     }
 
+    /// The next entry stands so many seconds after it was sent.
+    pub(crate) fn let_come_late(&self, seconds: u64) {
+        self.late.set(seconds);
+    }
+
     /// How many entries the log has.
     pub(crate) fn entries(&self) -> usize {
         match self.log.try_borrow() {
@@ -90,6 +97,8 @@ fn log_of(site: &Site) -> SharedLog<'_> {
     SharedLog {
         log: &site.log,
         rival: &site.rival,
+        late: &site.late,
+        seconds: &site.seconds,
     }
 }
 

@@ -101,15 +101,45 @@ fn may_answer(site: &Site) -> Option<[bool; 2]> {
     for _ in 0..19 {
         site.pass_second();
     }
-    let first = here.may_answer_stays();
+    let lease = here.lease();
+    let first = here.may_answer_stays(lease);
     site.pass_second();
-    Some([first, here.may_answer_stays()])
+    Some([first, here.may_answer_stays(lease)])
 }
 
 #[test]
 fn a_front_end_that_is_cut_off_answers_no_more(rt: HostRuntime) {
     let answers = may_answer(&Site::new(rt.alloc()));
     assert!(rt; answers == Some([true, false]), "{answers:?}");
+}
+
+// Whether those who kept a stay may be answered behind an entry that was sent in second 15, and stood so many seconds later; and those who begin to keep one.
+fn may_answer_late(site: &Site, late: u64) -> Option<[bool; 2]> {
+    let mut here = front_end(site, b'a')?;
+    if !says(site, &mut here, b"enter 1\n", b"ok\n") {
+        return None;
+    }
+    let lease = here.lease();
+    for _ in 0..15 {
+        site.pass_second();
+    }
+    site.let_come_late(late);
+    if !says(site, &mut here, b"enter 2\n", b"ok\n") {
+        return None;
+    }
+    Some([
+        here.may_answer_stays(lease),
+        here.may_answer_stays(here.lease()),
+    ])
+}
+
+/// An entry that stands once others may have ended the stays begins another lease.
+#[test]
+fn a_late_entry_begins_another_lease(rt: HostRuntime) {
+    let in_time = may_answer_late(&Site::new(rt.alloc()), 4);
+    assert!(rt; in_time == Some([true, true]), "{in_time:?}");
+    let late = may_answer_late(&Site::new(rt.alloc()), 5);
+    assert!(rt; late == Some([false, true]), "{late:?}");
 }
 
 // The next drawn number below 64.

@@ -143,7 +143,7 @@ impl Persist<Reported> for Teller {
 
     ghost shares = { λ k. true };
 
-    ghost may_answer = { λ k. ⊤ };
+    ghost may_answer = { λ k lease. ⊤ };
 
     ghost holds = { λ k w. record {
       pool = record { most = 0; size = 0; bits = record { first = tt; values = []; bits = [] }; competitors = [] };
@@ -208,7 +208,11 @@ impl Persist<Reported> for Teller {
         false
     }
 
-    fn may_answer_stays(&self) -> bool {
+    fn lease(&self) -> u64 {
+        0
+    }
+
+    fn may_answer_stays(&self, _lease: u64) -> bool {
         true
     }
 
