@@ -40,12 +40,16 @@ def wanted(what, want, got):
         raise Refused(f"{what}: wanted {want!r:.300}, got {got!r:.300}")
 
 
+def checks_at_once():
+    """How many checks may run side by side: one each processor, if each has MEMORY."""
+    return max(1, min(len(os.sched_getaffinity(0)), os.sysconf("SC_PHYS_PAGES") * os.sysconf("SC_PAGE_SIZE") // MEMORY))
+
+
 def kit_settings():
     """The environment of `rt ci`, with as many checks side by side as there are processors, if each has MEMORY. Of itself it runs half as many: it reckons
     with three times the memory that a check of a crate of a few thousand lines takes."""
     processors = len(os.sched_getaffinity(0))
-    fitting = os.sysconf("SC_PHYS_PAGES") * os.sysconf("SC_PAGE_SIZE") // MEMORY
-    return {"RT_JOBS": str(processors), **os.environ} if processors <= fitting else dict(os.environ)
+    return {"RT_JOBS": str(processors), **os.environ} if processors == checks_at_once() else dict(os.environ)
 
 
 # Words and parts.
