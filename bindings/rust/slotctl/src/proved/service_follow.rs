@@ -1,4 +1,4 @@
-// Erased by bindings/rust/erase from crates/service_follow/src/lib.rt, sha256 b3b1e69cf8bffeac446b9126521c9eea89766c33a7fee6a5e65ab13e092aacea.
+// Erased by bindings/rust/erase from crates/service_follow/src/lib.rt, sha256 6dd950084d55d842e5b538f1a19ceaeda19c0257391bd56e52a958d3a89d89c6.
 //! A hall whose history is a log that several machines share.
 //!
 //! `HallMachine` is a hall as the machine of a `service_log::Replica`: an entry of the log is a first line, a token of its own, and then lines

@@ -1,4 +1,4 @@
-// Erased by bindings/rust/erase from crates/service_follow/src/log_persister.rt, sha256 34c505bad8fb0e6362a4bee29570db368c2c187c70003d0b420f5c73c1de8c16.
+// Erased by bindings/rust/erase from crates/service_follow/src/log_persister.rt, sha256 76519ef35b306db400cd72ed8378ce7f6c30774ae694d33e4e12cbd7af8d512a.
 //! Serves the clients of one front end over a log.
 
 use crate::kit::alloc::{AllocError, Allocator, Global};
@@ -423,7 +423,7 @@ impl<S: Store, T: Pause> LogPersister<S, T> {
                 }
                 self.no_space = false;
                 self.answers = true;
-                self.sessions.sent = now;
+                self.sessions.renew(now, self.pause.seconds());
                 return Ok(Prefetch::Known);
             };
             self.no_space = fault == ServeFault::Unknown(Cause::Store(StoreFault::NoSpace));
@@ -520,10 +520,17 @@ impl<S: Store, T: Pause> LogPersister<S, T> {
         true
     }
 
-    /// Returns true if and only if this front end may answer those who keep stays: it sent the last of its entries that stood less than 20
-    /// seconds ago. Others end its stays only later than that and the grace time.
-    pub fn may_answer_stays(&self) -> bool {
-        self.sessions.may_answer(self.pause.seconds())
+    /// Returns the lease since which a stay is kept that begins now: that of its next entry. A lease lapses 20 seconds after the last of its entries that
+    /// stood was sent, and then the next entry begins another.
+    pub fn lease(&self) -> u64 {
+        self.sessions.lease_at(self.pause.seconds())
+    }
+
+    /// Returns true if and only if this front end may answer those who keep stays since this lease: it goes on. The last of its entries that stood was
+    /// sent less than 20 seconds ago, and each was known to stand less than 20 seconds after the one before was sent. Others end its stays only later
+    /// than that and the grace time.
+    pub fn may_answer_stays(&self, lease: u64) -> bool {
+        self.sessions.may_answer(lease, self.pause.seconds())
     }
 
     // Offers a compaction if one is due, where the log tells no other terms, and answers nothing.
@@ -625,7 +632,7 @@ impl<S: Store, T: Pause> LogPersister<S, T> {
 
     // Offers an entry of these lines for the next place, once.
     fn offer(&mut self, lines: &[u8], reply_queue: &mut ReplyQueue) -> Result<(), LogFault> {
-        let now = self.pause.seconds();
+        let sent = self.pause.seconds();
         let count = self.count.wrapping_add(1);
         let Ok(()) = put_batch(
             &mut self.batch,
@@ -640,7 +647,7 @@ impl<S: Store, T: Pause> LogPersister<S, T> {
         match self.log.offer(&self.batch, reply_queue) {
             Ok(Step::Answered) => {
                 self.gone.stand();
-                self.sessions.sent = now;
+                self.sessions.renew(sent, self.pause.seconds());
                 Ok(())
             }
             Ok(Step::Passed | Step::Nothing) => Ok(()),
@@ -773,8 +780,12 @@ impl<S: Store, T: Pause> Persist<ReplyQueue> for LogPersister<S, T> {
         self.log.hall().slots().pool().stay_of(identity).is_some()
     }
 
-    fn may_answer_stays(&self) -> bool {
-        LogPersister::may_answer_stays(self)
+    fn lease(&self) -> u64 {
+        LogPersister::lease(self)
+    }
+
+    fn may_answer_stays(&self, lease: u64) -> bool {
+        LogPersister::may_answer_stays(self, lease)
     }
 
     fn changes(&self) -> Option<&Feed> {

@@ -1,4 +1,4 @@
-// Erased by bindings/rust/erase from crates/service_follow/src/sessions.rt, sha256 a77d4c1242a20375134d724a9e0d683ff11baf91bfaf2a5e0679cfaa556a8eaa.
+// Erased by bindings/rust/erase from crates/service_follow/src/sessions.rt, sha256 842993abcbcef6202f6a249ae1b268f97f87d34f5a239a2227103b11e616a669.
 //! What a front end knows of who keeps stays in the pool.
 
 use crate::kit::alloc::{AllocError, Global};
@@ -25,6 +25,9 @@ pub(crate) struct Sessions {
     pub(crate) reads: u64,
     /// The second in which the last entry of this front end that stood was sent.
     pub(crate) sent: u64,
+    /// The lease of that entry. Another begins with an entry that is known to stand only once the lease before has lapsed: `MOST_SILENT` seconds
+    /// after the entry before it was sent. Others may have ended stays meanwhile.
+    pub(crate) lease: u64,
 }
 
 impl Sessions {
@@ -35,6 +38,7 @@ impl Sessions {
             grace: 0,
             reads: 0,
             sent: 0,
+            lease: 0,
         }
     }
 
@@ -63,9 +67,29 @@ impl Sessions {
         self.watches.keeps_one(token) && HEARTBEAT <= now.saturating_sub(self.sent)
     }
 
-    /// Returns true if and only if the last entry of this front end that stood was sent so lately before this second that no other ends stays
-    /// that it keeps.
-    pub(crate) fn may_answer(&self, now: u64) -> bool {
+    // Whether the lease of the last entry goes on at this second.
+    fn goes_on(&self, now: u64) -> bool {
         now.saturating_sub(self.sent) < MOST_SILENT
+    }
+
+    /// Returns the lease of an entry that is known to stand at this second.
+    pub(crate) fn lease_at(&self, now: u64) -> u64 {
+        if self.goes_on(now) {
+            self.lease
+        } else {
+            self.lease.wrapping_add(1)
+        }
+    }
+
+    /// An entry that was sent in one second is known to stand in another.
+    pub(crate) fn renew(&mut self, sent: u64, now: u64) {
+        self.lease = self.lease_at(now);
+        self.sent = sent;
+    }
+
+    /// Returns true if and only if this is the lease of the last entry of this front end that stood, and that was sent so lately before this second that
+    /// no other ends stays that it keeps.
+    pub(crate) fn may_answer(&self, lease: u64, now: u64) -> bool {
+        lease == self.lease && self.goes_on(now)
     }
 }

@@ -1,4 +1,4 @@
-// Erased by bindings/rust/erase from crates/service_host/src/persisters.rt, sha256 6c166b608dbf4eedf2b07adf49e3f831448dd54941d4f8396a6ba4f19d64af2f.
+// Erased by bindings/rust/erase from crates/service_host/src/persisters.rt, sha256 b3ce6f41fe3ce076eda81d7151f9f064a5f0f43c98bfa9a7370c275b316a3f81.
 //! What is kept of the turns of a loop over a hall.
 
 use crate::kit::alloc::{Allocator, Global};
@@ -107,7 +107,11 @@ impl Persist<Reading<Hall>> for Unrecorded {
         reading.service.slots().pool().stay_of(identity).is_some()
     }
 
-    fn may_answer_stays(&self) -> bool {
+    fn lease(&self) -> u64 {
+        0
+    }
+
+    fn may_answer_stays(&self, _lease: u64) -> bool {
         true
     }
 
@@ -228,7 +232,11 @@ impl<D: Disk> Persist<Reading<WriteAhead>> for Recorded<D> {
             .is_some()
     }
 
-    fn may_answer_stays(&self) -> bool {
+    fn lease(&self) -> u64 {
+        0
+    }
+
+    fn may_answer_stays(&self, _lease: u64) -> bool {
         true
     }
 

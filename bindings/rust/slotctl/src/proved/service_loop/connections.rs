@@ -1,4 +1,4 @@
-// Erased by bindings/rust/erase from crates/service_loop/src/connections.rt, sha256 445ae61dbf2c839b7aabf2ce8a0c33324ba5c4468244c44b898fdda67f80e468.
+// Erased by bindings/rust/erase from crates/service_loop/src/connections.rt, sha256 42a6f97c82aaf76a08d7b07d3080b4c349df7c1756b066050e522dbb0062d4d6.
 //! The connections of a server, their seats, and who is to have a turn.
 
 use crate::kit::alloc::{AllocError, Global};
@@ -43,6 +43,8 @@ pub struct ConnectionTable {
     pub faults: u64,
     /// The connections that have ended since this list was last emptied. One that said `quit` may stand in it twice.
     pub ended: Vec<Ending>,
+    /// The lease since which those who are not at fault keep their stays.
+    pub lease: u64,
     /// How many lines were taken of those that have left.
     lines: u64,
     /// The seats whose connections wait for changes of who holds numbers.
@@ -133,6 +135,7 @@ impl ConnectionTable {
             served: 0,
             faults: 0,
             ended: Vec::new(alloc),
+            lease: 0,
             lines: 0,
             watchers: Watchers::new(alloc),
             later: Vec::with_capacity(alloc, few)?,
@@ -295,7 +298,8 @@ impl ConnectionTable {
         service.end_lost(lost, tick);
     }
 
-    /// Where the persister may not answer those who keep stays, each connection that keeps one is at fault and due.
+    /// Where the persister may not answer those who keep stays, each connection that keeps one is at fault and due. Those who begin to keep one
+    /// later do so since another lease.
     ///
     /// # Errors
     ///
@@ -305,10 +309,12 @@ impl ConnectionTable {
         persister: &K,
         stays: &Stays,
     ) -> Result<(), AllocError> {
-        if persister.may_answer_stays() {
+        if persister.may_answer_stays(self.lease) {
             return Ok(());
         }
-        fail_keepers(&mut self.seats, self.numbers.all(), stays, &mut self.ready)
+        fail_keepers(&mut self.seats, self.numbers.all(), stays, &mut self.ready)?;
+        self.lease = persister.lease();
+        Ok(())
     }
 
     // A connection that was called to take a number is due again, whether it took one or not.

@@ -1,4 +1,4 @@
-// Erased by bindings/rust/erase from crates/service_loop/src/hosting.rt, sha256 0321864bb90401fc6c4d35a04b32f6c5ae913c0c8e0c5688f137dbe0f59a1ccd.
+// Erased by bindings/rust/erase from crates/service_loop/src/hosting.rt, sha256 c62cdb96937a9a55b4f2b8edd3b4aa68288ede3fc0ba2d31dbdb3a33fba243d8.
 //! A server in one thread, by the readiness of its sockets.
 
 use crate::kit::alloc::{AllocError, Global};
@@ -788,8 +788,10 @@ impl Hosting {
     ) -> Result<(), HostFault<K::Fault>> {
         let ended = self.has_ended();
         self.connections.note_ended(service, self.lost, self.tick);
+        self.end_if_due(rt, manner, grace, service, persister, shared, ended)?;
+        // To end stays may take long, so that is asked last.
         self.connections.check_keepers(persister, &service.stays)?;
-        self.end_if_due(rt, manner, grace, service, persister, shared, ended)
+        Ok(())
     }
 
     // Ends the stays that are due, where a second has passed or connections have ended, and any are to end.

@@ -1,4 +1,4 @@
-// Erased by bindings/rust/erase from crates/service_loop/src/persist.rt, sha256 5ea70dcf8694ddeec25708b30c3b7e1d14bd1b99bf9f5bc3af23e4ea13cde475.
+// Erased by bindings/rust/erase from crates/service_loop/src/persist.rt, sha256 16e2684505e0cbf61ac6d3f586efd4b77907f3358d2e7ba53d2956ca5470279a.
 //! What is kept of a turn before its replies go out.
 
 use crate::kit::alloc::Allocator;
@@ -59,8 +59,11 @@ pub trait Persist<D>: Sized {
     /// Returns true if and only if an identity competes, where all is kept that the service told.
     fn has_stay(&self, service: &D, identity: u64) -> bool;
 
-    /// Whether this server may still answer those who keep stays. Where it may not they are closed, and nothing is sent to them.
-    fn may_answer_stays(&self) -> bool;
+    /// The lease in which a stay is kept that begins now. Another begins where others may have ended the stays that were kept before.
+    fn lease(&self) -> u64;
+
+    /// Whether this server may still answer those who keep stays since this lease. Where it may not they are closed, and nothing is sent to them.
+    fn may_answer_stays(&self, lease: u64) -> bool;
 
     /// What changes of who holds numbers, where other servers share the service; `None` where none does: then the loop notes it.
     fn changes(&self) -> Option<&Feed> {
