@@ -113,7 +113,15 @@ fn a_front_end_that_is_cut_off_answers_no_more(rt: HostRuntime) {
     assert!(rt; answers == Some([true, false]), "{answers:?}");
 }
 
-// Whether those who kept a stay may be answered behind an entry that was sent in second 15, and stood so many seconds later; and those who begin to keep one.
+// Whether those who kept a stay since a lease may be answered, and those who begin to keep one.
+fn may_answer_since(here: &FrontEnd<'_>, lease: u64) -> [bool; 2] {
+    [
+        here.may_answer_stays(lease),
+        here.may_answer_stays(here.lease()),
+    ]
+}
+
+// The same, behind an entry of clients that was sent in second 15, and stood so many seconds later.
 fn may_answer_late(site: &Site, late: u64) -> Option<[bool; 2]> {
     let mut here = front_end(site, b'a')?;
     if !says(site, &mut here, b"enter 1\n", b"ok\n") {
@@ -127,10 +135,25 @@ fn may_answer_late(site: &Site, late: u64) -> Option<[bool; 2]> {
     if !says(site, &mut here, b"enter 2\n", b"ok\n") {
         return None;
     }
-    Some([
-        here.may_answer_stays(lease),
-        here.may_answer_stays(here.lease()),
-    ])
+    Some(may_answer_since(&here, lease))
+}
+
+// The same, behind an empty entry that was sent in second 15.
+fn beats_late(site: &Site, late: u64) -> Option<[bool; 2]> {
+    let mut here = front_end(site, b'a')?;
+    let entered = says(site, &mut here, b"enter 1\n", b"ok\n");
+    if !entered || !sweeps(site, &mut here, &[]) {
+        return None;
+    }
+    let lease = here.lease();
+    for _ in 0..13 {
+        site.pass_second();
+    }
+    site.let_come_late(late);
+    if !sweeps(site, &mut here, &[]) || site.entries() != 3 {
+        return None;
+    }
+    Some(may_answer_since(&here, lease))
 }
 
 /// An entry that stands once others may have ended the stays begins another lease.
@@ -139,6 +162,14 @@ fn a_late_entry_begins_another_lease(rt: HostRuntime) {
     let in_time = may_answer_late(&Site::new(rt.alloc()), 4);
     assert!(rt; in_time == Some([true, true]), "{in_time:?}");
     let late = may_answer_late(&Site::new(rt.alloc()), 5);
+    assert!(rt; late == Some([false, true]), "{late:?}");
+}
+
+#[test]
+fn a_late_beat_begins_another_lease(rt: HostRuntime) {
+    let in_time = beats_late(&Site::new(rt.alloc()), 4);
+    assert!(rt; in_time == Some([true, true]), "{in_time:?}");
+    let late = beats_late(&Site::new(rt.alloc()), 5);
     assert!(rt; late == Some([false, true]), "{late:?}");
 }
 
