@@ -102,9 +102,10 @@ pub fn law_of_silence()
 {}
 
 /// A law, which runs nothing, of the entries of a front end that stood: as long as its lease is the same, each was known to stand less than 20 seconds
-/// after the one before was sent. So no other front end ended a stay that it kept at the first, for that takes longer (`law_of_silence`).
+/// after the one before was sent. Others end its stays only later than that (`law_of_silence`): that they ended none follows from both, by no clause.
 pub fn law_of_leases()
-    ensures { (lease sent : ℕ) (entries : List Stood) → lease + length entries < 2 ^ 64 → lease_after lease sent entries ≡ lease → IsUnbroken sent entries }
+    ensures { (lease sent : ℕ) (entries : List Stood) → lease + length entries < 2 ^ 64 →
+        lease_after lease sent entries ≡ lease → IsUnbroken sent entries }
 {}
 
 /// A law, which runs nothing, of a turn of the loop (`service_loop::iterate`) over a queue of replies that was prefetched of a log and was used up: it

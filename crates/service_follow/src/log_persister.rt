@@ -539,7 +539,8 @@ impl<S: Store, T: Pause> LogPersister<S, T> {
         ensures moved { HasMovedOn S.stands self.old.log self.new.log }
         ensures head { (self.new.count ≡ self.old.count) × (self.new.token ≡ self.old.token) }
         ensures sent { result ≡ Ok Prefetch.Known → T.tells self.old.pause self.new.sessions.sent }
-        ensures lease { result ≡ Ok Prefetch.Known → IsRenewedBy T.tells self.new.pause self.old.sessions.sent self.old.sessions.lease self.new.sessions.lease }
+        ensures lease { result ≡ Ok Prefetch.Known →
+            IsRenewedBy T.tells self.new.pause self.old.sessions.sent self.old.sessions.lease self.new.sessions.lease }
         ensures unsent { result ≢ Ok Prefetch.Known → self.new.sessions ≡ self.old.sessions }
         ensures well { result ≡ Ok Prefetch.Known → self.new.log.replica.poisoned ≡ false }
     {
@@ -861,7 +862,8 @@ impl<S: Store, T: Pause> LogPersister<S, T> {
         ensures moved { HasMovedOn S.stands self.old.log self.new.log }
         ensures looked { (self.new.sessions.watches ≡ self.old.sessions.watches) × (self.new.sessions.reads ≡ self.old.sessions.reads) }
         ensures sent { ((self.new.sessions.sent ≡ self.old.sessions.sent) × (self.new.sessions.lease ≡ self.old.sessions.lease)) ⊎
-            (T.tells self.old.pause self.new.sessions.sent × S.stands self.new.log.store self.old.log.stays.place (batch_of self.old.token self.new.count lines.now) ×
+            (T.tells self.old.pause self.new.sessions.sent ×
+            S.stands self.new.log.store self.old.log.stays.place (batch_of self.old.token self.new.count lines.now) ×
             IsRenewedBy T.tells self.new.pause self.old.sessions.sent self.old.sessions.lease self.new.sessions.lease) }
         ensures token { self.new.token ≡ self.old.token }
     {
@@ -1069,12 +1071,15 @@ impl<S: Store, T: Pause> Persist<ReplyQueue> for LogPersister<S, T> {
         self.log.hall().slots().pool().stay_of(identity).is_some()
     }
 
-    fn lease(&self) -> u64 {
+    fn lease(&self) -> u64
+        ensures next { IsRenewedBy T.tells self.now.pause self.now.sessions.sent self.now.sessions.lease result }
+    {
         LogPersister::lease(self)
     }
 
     fn may_answer_stays(&self, lease: u64) -> bool
-        ensures clock { (now : ℕ) × T.tells self.now.pause now × (result ≡ ((lease == self.now.sessions.lease) && ltb (now - self.now.sessions.sent) 20)) }
+        ensures clock { (now : ℕ) × T.tells self.now.pause now ×
+            (result ≡ ((lease == self.now.sessions.lease) && ltb (now - self.now.sessions.sent) 20)) }
     {
         LogPersister::may_answer_stays(self, lease)
     }

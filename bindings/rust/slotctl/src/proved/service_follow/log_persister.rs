@@ -1,4 +1,4 @@
-// Erased by bindings/rust/erase from crates/service_follow/src/log_persister.rt, sha256 76519ef35b306db400cd72ed8378ce7f6c30774ae694d33e4e12cbd7af8d512a.
+// Erased by bindings/rust/erase from crates/service_follow/src/log_persister.rt, sha256 618096f436109cb7a1de0a8759f862a6c803ab25231bfab318c83a3e874f9b0b.
 //! Serves the clients of one front end over a log.
 
 use crate::kit::alloc::{AllocError, Allocator, Global};
